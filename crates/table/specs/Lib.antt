@@ -1,0 +1,5 @@
+pub mod Kinds
+pub mod Extents
+pub mod Maps
+pub mod Refusals
+pub mod Calls
