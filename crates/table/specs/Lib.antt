@@ -3,3 +3,4 @@ pub mod Extents
 pub mod Maps
 pub mod Refusals
 pub mod Calls
+pub mod Laws
