@@ -2,10 +2,11 @@
 use Prim.Native.Nat.{ℕ, _+_, _-_, _<_, _≤_}
 use mathlib.Core.Bool.{Bool, true, false, cond}
 use mathlib.Core.List.{List, [], _∷_}
+use mathlib.Core.Logic.{_⊎_, inl, inr}
 use mathlib.Core.Path.{_≡_, refl, subst}
 use native.Mathlib.Omega.{arith}
 use lib.Dec.{ltb}
-use Rattle.std.proofs.shelf.Tests.{cond-true, cond-false, lt-ltb, le-ltb}
+use Rattle.std.proofs.shelf.Tests.{both-ways, cases-bool, cond-true, cond-false, lt-ltb, le-ltb}
 use Rattle.table.specs.declared.extent.Slot.{Slot}
 use Rattle.table.specs.Kinds.{Laws}
 use Rattle.table.specs.Extents.{valueAt, valueFrom, Climbs}
@@ -27,6 +28,17 @@ from-start shift s [] n h = refl
 from-start shift s (t ∷ ts) n h = from-before shift s t ts (s .start) (h .0)
 
 module _ {V : Type 0} {shift : V → ℕ → V} {same : V → V → Bool} {clear : V → Bool} (laws : Laws shift same clear) where
+  pub via : {u v w : V} → same u v ≡ true → same v w ≡ true → same u w ≡ true
+  via {u} {v} {w} p q = laws .same-on u v w p q
+
+  pub back : {u v : V} → same u v ≡ true → same v u ≡ true
+  back {u} {v} p = laws .same-back u v p
+
+  -- values that are not same stay so for what is same as each
+  pub apart : {u v x y : V} → same u x ≡ true → same v y ≡ true → same u v ≡ false → same x y ≡ false
+  apart {u} {v} {x} {y} p q h =
+      elim (cases-bool (same x y)) [ inl e ↦ absurd (both-ways (same u v) h (via p (via e (back q)))) | inr e ↦ e ]
+
   pub same-is : (v w : V) → v ≡ w → same v w ≡ true
   same-is v w e = subst (λ (x : V). same v x ≡ true) e (laws .same-self v)
 

@@ -1,2 +1,5 @@
 pub mod Alike
 pub mod Unique
+pub mod Pieces
+pub mod Tables
+pub mod Judging

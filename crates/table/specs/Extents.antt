@@ -1,5 +1,5 @@
 -- What the sectors of a row of slots hold, and when a row is normal.
-use Prim.Native.Nat.{ℕ, _-_, _^_, _<_, _≤_}
+use Prim.Native.Nat.{ℕ, suc, _-_, _^_, _<_, _≤_}
 use mathlib.Core.Bool.{Bool, true, false, cond}
 use mathlib.Core.List.{List, [], _∷_}
 use mathlib.Core.Path.{_≡_}
@@ -22,6 +22,11 @@ module _ {V : Type 0} (shift : V → ℕ → V) where
   abbrev pub at : List (Slot V) → V → ℕ → V
   at [] d i = d
   at (s ∷ ss) d i = valueFrom s ss i
+
+-- how many slots at the front start below a sector
+abbrev pub before : {V : Type 0} → ℕ → List (Slot V) → ℕ
+before a [] = 0
+before a (s ∷ ss) = cond (ltb (s .start) a) (suc (before a ss)) 0
 
 module _ {V : Type 0} where
   -- starts rise strictly and stay below n

@@ -3,4 +3,5 @@
 pub mod extent;
 pub mod kind;
 pub mod mask;
+pub mod normal;
 pub mod refusal;
