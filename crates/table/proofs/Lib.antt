@@ -3,3 +3,4 @@ pub mod Unique
 pub mod Pieces
 pub mod Tables
 pub mod Judging
+pub mod Finding
