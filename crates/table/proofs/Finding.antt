@@ -36,12 +36,12 @@ module _ {V : Type 0} (shift : V → ℕ → V) where
   found-from [] s i h x e = held x s [] i e (h, refl)
   found-from (t ∷ ts) s i h x e =
       elim (cases-lt i (t .start)) [
-        inl l ↦
-          let read : x ≡ s = rw (before-above (t ∷ ts) 0 (i + 1) (omega arith)) at e in
-          held x s (t ∷ ts) i read (h, sym (from-before shift s t ts i l))
-      | inr l ↦
-          let rest : Holds x t ts i = found-from ts t i l x (rw (before-below t ts (i + 1) (omega arith)) at e) in
-          (rest .0, rest .1 ∙ sym (from-after shift s t ts i l))
+        | inl l ↦
+            let read : x ≡ s = rw (before-above (t ∷ ts) 0 (i + 1) (omega arith)) at e in
+            held x s (t ∷ ts) i read (h, sym (from-before shift s t ts i l))
+        | inr l ↦
+            let rest : Holds x t ts i = found-from ts t i l x (rw (before-below t ts (i + 1) (omega arith)) at e) in
+            (rest .0, rest .1 ∙ sym (from-after shift s t ts i l))
       ]
 
   pub found : (xs : List (Slot V)) (n i : ℕ) → Covers xs n → i < n → (0 < before (i + 1) xs) × ((x : Slot V) → x ≡ getD xs (before (i + 1) xs - 1) x → (x .start ≤ i) × ((d : V) → valueAt shift x i ≡ at shift xs d i))
@@ -49,10 +49,12 @@ module _ {V : Type 0} (shift : V → ℕ → V) where
   found (s ∷ ss) n i covers h =
       let first : s .start ≡ 0 = covers .0 in
       let k : before (i + 1) (s ∷ ss) ≡ suc (before (i + 1) ss) = before-below s ss (i + 1) (omega arith) in
-      let at-k : before (i + 1) (s ∷ ss) - 1 ≡ before (i + 1) ss = omega arith in
-      (omega arith, λ x e.
-        let there = found-from ss s i (omega arith) x (subst (λ (j : ℕ). x ≡ getD (s ∷ ss) j x) at-k e) in
-        (there .0, λ d. there .1))
+      let at-k : before (i + 1) (s ∷ ss) - 1 ≡ before (i + 1) ss = omega arith in (
+        omega arith,
+        λ x e.
+            let there = found-from ss s i (omega arith) x (subst (λ (j : ℕ). x ≡ getD (s ∷ ss) j x) at-k e) in
+            (there .0, λ d. there .1),
+      )
 
   -- the same of the counted slots
   pub found-counted : (same : V → V → Bool) (h : Head) (xs : List (Slot V)) (i k : ℕ) → Normal shift same h xs → i < h .length → k ≡ before (i + 1) (take (h .count) xs) → (0 < k) × (k ≤ h .count) × ((x : Slot V) → x ≡ getD xs (k - 1) x → (x .start ≤ i) × ((d : V) → valueAt shift x i ≡ mapOf shift h xs d i))
@@ -60,9 +62,12 @@ module _ {V : Type 0} (shift : V → ℕ → V) where
       let ys = take (h .count) xs in
       let there = found ys (h .length) i (normal .covers) lt in
       let many : length ys ≡ h .count = length-take-le (h .count) xs (normal .room) in
-      let le = before-le (i + 1) ys in
-      (omega (arith, there .0), omega arith, λ x e.
-        there .1 x (e ∙ sym (getD-take (h .count) xs (k - 1) x (omega (arith, there .0))) ∙ ap (λ (j : ℕ). getD ys (j - 1) x) is))
+      let le = before-le (i + 1) ys in (
+        omega (arith, there .0),
+        omega arith,
+        λ x e.
+            there .1 x (e ∙ sym (getD-take (h .count) xs (k - 1) x (omega (arith, there .0))) ∙ ap (λ (j : ℕ). getD ys (j - 1) x) is),
+      )
 
 module _ {V : Type 0} {shift : V → ℕ → V} {same : V → V → Bool} {clear : V → Bool} (laws : Laws shift same clear) where
   -- the counted slots up to n
@@ -82,17 +87,20 @@ module _ {V : Type 0} {shift : V → ℕ → V} {same : V → V → Bool} {clear
   pub cut-leaves : (h : Head) (xs : List (Slot V)) (h′ : Head) → Normal shift same h xs → h′ .length ≤ h .length → h′ .count ≡ before (h′ .length) (take (h .count) xs) → Leaves shift same (mapOf shift h xs) (h′ .length) xs h′ xs
   cut-leaves h xs h′ normal le is =
       elim (value-in ys (h .length) (normal .covers)) [
-        inl none ↦
-          let zero-count : h′ .count ≡ 0 = is ∙ ap (λ (n : ℕ). before n ys) (omega arith) ∙ before-above ys 0 0 (omega arith) in
-          leaves laws (mapOf shift h xs) (h′ .length) xs xs (take (h′ .count) xs) h′ refl bounded room refl refl (rw zero-count (omega arith)) (rw zero-count tt) parts
-      | inr v ↦ leaves-at laws (mapOf shift h xs) (h′ .length) v xs xs (take (h′ .count) xs) h′ refl bounded room refl refl parts
+        | inl none ↦
+            let zero-count : h′ .count ≡ 0 = is ∙ ap (λ (n : ℕ). before n ys) (omega arith) ∙ before-above ys 0 0 (omega arith) in
+            leaves laws (mapOf shift h xs) (h′ .length) xs xs (take (h′ .count) xs) h′ refl bounded room refl refl (rw zero-count (omega arith)) (rw zero-count tt) parts
+        | inr v ↦ leaves-at laws (mapOf shift h xs) (h′ .length) v xs xs (take (h′ .count) xs) h′ refl bounded room refl refl parts
       ]
     where
       ys : List (Slot V)
       ys = take (h .count) xs
+
       bounded : h′ .length ≤ 2 ^ 40
       bounded = omega (arith, normal .bounded)
+
       room : h′ .count ≤ length xs
       room = omega (arith, is, before-le (h′ .length) (take (h .count) xs), length-take-le (h .count) xs (normal .room), normal .room)
+
       parts : (d : V) → Part shift same (mapOf shift h xs d) (take (h′ .count) xs) 0 (h′ .length)
       parts d = rw is (front-counted h xs (h′ .length) normal le d)

@@ -4,3 +4,4 @@ pub mod Pieces
 pub mod Tables
 pub mod Judging
 pub mod Finding
+pub mod Ends

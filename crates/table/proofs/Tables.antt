@@ -15,14 +15,10 @@ use Rattle.table.specs.Kinds.{Laws}
 use Rattle.table.specs.Extents.{valueAt, valueFrom, at, Climbs, Covers, Breaks, Distinct, Normal}
 use Rattle.table.specs.Maps.{Map, Agree, Writes, NoneFits}
 use Rattle.table.specs.Calls.{mapOf, Leaves}
+use Rattle.table.specs.Steps.{Next}
 use Rattle.table.proofs.Alike.{climbs-below, via, back, apart}
 use Rattle.table.proofs.Unique.{least}
 use Rattle.table.proofs.Pieces.{Part, Break, Flat, part-le, part-from, part-append, part-one, part-on, normal-from}
-
--- The slot that begins at p with the value x, if the map breaks there; none, if the slot before goes on.
-abbrev pub Next : {V : Type 0} (shift : V → ℕ → V) (same : V → V → Bool) (m : ℕ → V) → ℕ → V → Option (Slot V) → Type 0
-Next shift same m p x None = (0 < p) × (same (shift (m (p - 1)) 1) x ≡ true)
-Next shift same m p x (Some s) = (s ≡ record { start = p; value = x }) × (0 < p → same (shift (m (p - 1)) 1) x ≡ false)
 
 module _ {V : Type 0} {shift : V → ℕ → V} {same : V → V → Bool} {clear : V → Bool} (laws : Laws shift same clear) where
   -- a normal list is a part of its own map

@@ -3,4 +3,5 @@ pub mod Extents
 pub mod Maps
 pub mod Refusals
 pub mod Calls
+pub mod Steps
 pub mod Laws

@@ -1,9 +1,12 @@
-// The calls on one table: append, cut and look.
-ghost use Prim.Native.Nat.{ℕ, _<_, _≤_};
-ghost use lib.ListN.{length, take};
+// The calls on one table: look, cut and append.
+ghost use Prim.Native.Nat.{_+_, _<_, _≤_};
+ghost use lib.ListN.{length};
 ghost use mathlib.Core.Path.{_≡_};
+ghost use Rattle.std.specs.Options.{Cases};
+ghost use Rattle.std.specs.Vec.{listOf};
 ghost use Rattle.table.specs.Calls.{mapOf, Looks, Cuts, Appends};
 ghost use Rattle.table.specs.Extents.{Normal, valueAt};
+ghost use Rattle.table.specs.Steps.{Next, Pushes};
 use crate::extent::Head;
 use crate::extent::Slot;
 use crate::kind::Value;
@@ -48,5 +51,66 @@ pub fn cut<V: Value>(head: &mut Head, slots: &[Slot<V>], length: u64) -> Result<
     }
     let count = count_before(slots, head.count, length);
     *head = Head { count, length };
+    Ok(())
+}
+
+// The slot that a value begins at a sector of the table or at its end, or none where the extent before goes on with it.
+fn slot_from<V: Value>(head: Head, slots: &[Slot<V>], start: u64, value: V) -> Option<Slot<V>>
+    requires normal { ⌜ Normal shift same head (now slots) ⌝ }
+    requires inside { ⌜ start ≤ head .length ⌝ }
+    ensures { λ r. ⌜ ((d : V) → Next shift same (mapOf shift head (now (slots .entry)) d) start value r) ⌝ }
+{
+    let slot = Slot { start, value };
+    if start == 0 {
+        return Some(slot);
+    }
+    let last = extent_at(head, slots, start - 1);
+    if last.value_at(start).is_same(value) {
+        return None;
+    }
+    Some(slot)
+}
+
+// Puts a slot, if there is one, behind the counted ones, and answers how many count then; none where it has no room.
+fn push<V: Value>(slots: &mut [Slot<V>], count: usize, next: Option<Slot<V>>) -> Option<usize>
+    requires { ⌜ count ≤ length (now slots) ⌝ }
+    ensures { λ r. ⌜ Cases r ((now (slots .exit) ≡ now (slots .entry)) × (length (now (slots .entry)) < count + length (listOf next))) (λ n. Pushes (now (slots .entry)) count next (now (slots .exit)) n) ⌝ }
+{
+    let Some(slot) = next else {
+        return Some(count);
+    };
+    if count >= slots.len() {
+        return None;
+    }
+    slots[count] = slot;
+    Some(count + 1)
+}
+
+// Adds `length` sectors at the end, with the value and what it is further on.
+pub fn append<V: Value>(
+    head: &mut Head,
+    slots: &mut [Slot<V>],
+    length: u64,
+    value: V,
+) -> Result<(), Refusal>
+    ensures { λ r. ⌜ Appends shift same (now (head .entry)) (now (slots .entry)) length value (now (head .exit)) (now (slots .exit)) r ⌝ }
+{
+    if length == 0 {
+        return Err(Refusal::EmptyLength);
+    }
+    if !is_normal(head, slots) {
+        return Err(Refusal::BrokenTable);
+    }
+    if length > LIMIT - head.length {
+        return Err(Refusal::PastLimit);
+    }
+    let next = slot_from(*head, slots, head.length, value);
+    let Some(count) = push(slots, head.count, next) else {
+        return Err(Refusal::NoRoom);
+    };
+    *head = Head {
+        count,
+        length: head.length + length,
+    };
     Ok(())
 }

@@ -1,0 +1,22 @@
+-- What the inner steps of the calls answer.
+use Prim.Native.Nat.{ℕ, _+_, _-_, _<_, _≤_}
+use mathlib.Core.Bool.{Bool, true, false}
+use mathlib.Core.List.{List, _++_}
+use mathlib.Core.Path.{_≡_}
+use lib.ListN.{length, take, drop}
+use Rattle.std.specs.declared.option.Option.{Option}
+use Rattle.std.specs.declared.option.Option.the-variants.{Some, None}
+use Rattle.std.specs.Vec.{listOf}
+use Rattle.table.specs.declared.extent.Slot.{Slot}
+
+-- The slot that begins at p with the value x, if the map breaks there; none, if the slot before goes on.
+abbrev pub Next : {V : Type 0} (shift : V → ℕ → V) (same : V → V → Bool) (m : ℕ → V) → ℕ → V → Option (Slot V) → Type 0
+Next shift same m p x None = (0 < p) × (same (shift (m (p - 1)) 1) x ≡ true)
+Next shift same m p x (Some s) = (s ≡ record { start = p; value = x }) × (0 < p → same (shift (m (p - 1)) 1) x ≡ false)
+
+-- A slot, or none, behind the first count slots: how many count now, and what the row holds.
+pub record Pushes {V : Type 0} (xs : List (Slot V)) (count : ℕ) (o : Option (Slot V)) (xs′ : List (Slot V)) (count′ : ℕ) : Type 0 where
+  pub many : count′ ≡ count + length (listOf o)
+  pub room : count′ ≤ length xs′
+  pub front : take count′ xs′ ≡ take count xs ++ listOf o
+  pub kept : drop count′ xs′ ≡ drop count′ xs
