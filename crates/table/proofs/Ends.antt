@@ -17,17 +17,17 @@ use Rattle.table.specs.Kinds.{Laws}
 use Rattle.table.specs.Extents.{valueAt, at, Normal}
 use Rattle.table.specs.Maps.{Map, NoneFits, appended}
 use Rattle.table.specs.Calls.{mapOf, Leaves}
-use Rattle.table.specs.Steps.{Next, Pushes}
+use Rattle.table.specs.Steps.{Next, Splices}
 use Rattle.table.proofs.Alike.{goes-on, via, back, apart, same-is}
 use Rattle.table.proofs.Pieces.{Part, Flat, part-like}
 use Rattle.table.proofs.Tables.{part-of, part-next, leaves-at, none-fits-at}
 
 -- a slot written right behind the first count
-pub pushes-one : {V : Type 0} (xs : List (Slot V)) (count : ℕ) (s : Slot V) (o : Option (Slot V)) → o ≡ Some s → count < length xs → Pushes xs count o (set xs count s) (count + 1)
+pub pushes-one : {V : Type 0} (xs : List (Slot V)) (count : ℕ) (s : Slot V) (o : Option (Slot V)) → o ≡ Some s → count < length xs → Splices xs (take count xs ++ listOf o) (set xs count s) (count + 1)
 pushes-one xs count s o e lt =
     rw e
     (record {
-      many = refl;
+      many = rw (length-push (take count xs) s, length-take-le count xs (omega arith)) refl;
       room = rw (length-set xs count s) (omega arith);
       front = take-more-set xs count s lt;
       kept = drop-set-lt (count + 1) xs count s (omega arith);
@@ -98,7 +98,7 @@ module _ {V : Type 0} {shift : V → ℕ → V} {same : V → V → Bool} {clear
         none-fits-at laws (appended shift (mapOf shift h xs) (h .length) v) (h .length + l) v (take (h .count) xs ++ listOf o) (length xs)
         (append-parts h xs l v o normal more next) (rw many full)
 
-    pub append-leaves : (xs′ : List (Slot V)) (count′ : ℕ) → h .length + l ≤ 2 ^ 40 → Pushes xs (h .count) o xs′ count′ → Leaves shift same (appended shift (mapOf shift h xs) (h .length) v) (h .length + l) xs (record { count = count′; length = h .length + l }) xs′
+    pub append-leaves : (xs′ : List (Slot V)) (count′ : ℕ) → h .length + l ≤ 2 ^ 40 → Splices xs (take (h .count) xs ++ listOf o) xs′ count′ → Leaves shift same (appended shift (mapOf shift h xs) (h .length) v) (h .length + l) xs (record { count = count′; length = h .length + l }) xs′
     append-leaves xs′ count′ bounded pushed =
         leaves-at laws (appended shift (mapOf shift h xs) (h .length) v) (h .length + l) v xs xs′ (take (h .count) xs ++ listOf o)
         (record { count = count′; length = h .length + l }) refl bounded (pushed .room) (pushed .front) (pushed .kept)

@@ -5,3 +5,4 @@ pub mod Tables
 pub mod Judging
 pub mod Finding
 pub mod Ends
+pub mod Rows

@@ -7,6 +7,7 @@ use lib.ListN.{length, take, drop}
 use Rattle.std.specs.declared.option.Option.{Option}
 use Rattle.std.specs.declared.option.Option.the-variants.{Some, None}
 use Rattle.std.specs.Vec.{listOf}
+use Rattle.table.specs.declared.row.Plan.{Plan}
 use Rattle.table.specs.declared.extent.Slot.{Slot}
 
 -- The slot that begins at p with the value x, if the map breaks there; none, if the slot before goes on.
@@ -14,9 +15,13 @@ abbrev pub Next : {V : Type 0} (shift : V → ℕ → V) (same : V → V → Boo
 Next shift same m p x None = (0 < p) × (same (shift (m (p - 1)) 1) x ≡ true)
 Next shift same m p x (Some s) = (s ≡ record { start = p; value = x }) × (0 < p → same (shift (m (p - 1)) 1) x ≡ false)
 
--- A slot, or none, behind the first count slots: how many count now, and what the row holds.
-pub record Pushes {V : Type 0} (xs : List (Slot V)) (count : ℕ) (o : Option (Slot V)) (xs′ : List (Slot V)) (count′ : ℕ) : Type 0 where
-  pub many : count′ ≡ count + length (listOf o)
+-- the slots that a plan keeps and adds
+abbrev pub planned : {V : Type 0} → List (Slot V) → ℕ → Plan V → List (Slot V)
+planned xs count p = take (p .front) xs ++ (listOf (p .middle) ++ (listOf (p .tail) ++ drop (p .back) (take count xs)))
+
+-- a list in the first slots of a row, which keeps the others
+pub record Splices {V : Type 0} (xs ys xs′ : List (Slot V)) (count′ : ℕ) : Type 0 where
+  pub many : count′ ≡ length ys
   pub room : count′ ≤ length xs′
-  pub front : take count′ xs′ ≡ take count xs ++ listOf o
+  pub front : take count′ xs′ ≡ ys
   pub kept : drop count′ xs′ ≡ drop count′ xs

@@ -1,12 +1,13 @@
 // The calls on one table: look, cut and append.
 ghost use Prim.Native.Nat.{_+_, _<_, _≤_};
-ghost use lib.ListN.{length};
+ghost use lib.ListN.{length, take};
+ghost use mathlib.Core.List.{_++_};
 ghost use mathlib.Core.Path.{_≡_};
 ghost use Rattle.std.specs.Options.{Cases};
 ghost use Rattle.std.specs.Vec.{listOf};
 ghost use Rattle.table.specs.Calls.{mapOf, Looks, Cuts, Appends};
 ghost use Rattle.table.specs.Extents.{Normal, valueAt};
-ghost use Rattle.table.specs.Steps.{Next, Pushes};
+ghost use Rattle.table.specs.Steps.{Next, Splices};
 use crate::extent::Head;
 use crate::extent::Slot;
 use crate::kind::Value;
@@ -74,7 +75,7 @@ fn slot_from<V: Value>(head: Head, slots: &[Slot<V>], start: u64, value: V) -> O
 // Puts a slot, if there is one, behind the counted ones, and answers how many count then; none where it has no room.
 fn push<V: Value>(slots: &mut [Slot<V>], count: usize, next: Option<Slot<V>>) -> Option<usize>
     requires { ⌜ count ≤ length (now slots) ⌝ }
-    ensures { λ r. ⌜ Cases r ((now (slots .exit) ≡ now (slots .entry)) × (length (now (slots .entry)) < count + length (listOf next))) (λ n. Pushes (now (slots .entry)) count next (now (slots .exit)) n) ⌝ }
+    ensures { λ r. ⌜ Cases r ((now (slots .exit) ≡ now (slots .entry)) × (length (now (slots .entry)) < count + length (listOf next))) (λ n. Splices (now (slots .entry)) (take count (now (slots .entry)) ++ listOf next) (now (slots .exit)) n) ⌝ }
 {
     let Some(slot) = next else {
         return Some(count);

@@ -6,3 +6,4 @@ pub mod kind;
 pub mod mask;
 pub mod normal;
 pub mod refusal;
+pub mod row;
