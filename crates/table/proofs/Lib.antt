@@ -6,3 +6,4 @@ pub mod Judging
 pub mod Finding
 pub mod Ends
 pub mod Rows
+pub mod Runs

@@ -8,6 +8,11 @@ use Rattle.std.specs.declared.option.Option.{Option}
 use Rattle.std.specs.declared.option.Option.the-variants.{Some, None}
 use Rattle.std.specs.Vec.{listOf}
 use Rattle.table.specs.declared.row.Plan.{Plan}
+use Rattle.table.specs.declared.extent.Head.{Head}
+use Rattle.table.specs.declared.extent.Run.{Run}
+use Rattle.table.specs.Extents.{before}
+use Rattle.table.specs.Maps.{assigned}
+use Rattle.table.specs.Calls.{mapOf}
 use Rattle.table.specs.declared.extent.Slot.{Slot}
 
 -- The slot that begins at p with the value x, if the map breaks there; none, if the slot before goes on.
@@ -25,3 +30,11 @@ pub record Splices {V : Type 0} (xs ys xs′ : List (Slot V)) (count′ : ℕ) :
   pub room : count′ ≤ length xs′
   pub front : take count′ xs′ ≡ ys
   pub kept : drop count′ xs′ ≡ drop count′ xs
+
+-- What an assign leaves of a table: the slots before the run, the run's, what goes on behind it, and the slots past that.
+pub record Plans {V : Type 0} (shift : V → ℕ → V) (same : V → V → Bool) (h : Head) (xs : List (Slot V)) (run : Run) (v : V) (p : Plan V) : Type 0 where
+  pub front : p .front ≡ before (run .start) (take (h .count) xs)
+  pub middle : (d : V) → Next shift same (mapOf shift h xs d) (run .start) v (p .middle)
+  pub tail : run .start + run .length < h .length → (d : V) → Next shift same (assigned shift (mapOf shift h xs) (run .start) (run .length) v d) (run .start + run .length) (mapOf shift h xs d (run .start + run .length)) (p .tail)
+  pub none : h .length ≤ run .start + run .length → p .tail ≡ None
+  pub back : p .back ≡ before (run .start + run .length + 1) (take (h .count) xs)

@@ -56,7 +56,7 @@ pub fn cut<V: Value>(head: &mut Head, slots: &[Slot<V>], length: u64) -> Result<
 }
 
 // The slot that a value begins at a sector of the table or at its end, or none where the extent before goes on with it.
-fn slot_from<V: Value>(head: Head, slots: &[Slot<V>], start: u64, value: V) -> Option<Slot<V>>
+pub fn slot_from<V: Value>(head: Head, slots: &[Slot<V>], start: u64, value: V) -> Option<Slot<V>>
     requires normal { ⌜ Normal shift same head (now slots) ⌝ }
     requires inside { ⌜ start ≤ head .length ⌝ }
     ensures { λ r. ⌜ ((d : V) → Next shift same (mapOf shift head (now (slots .entry)) d) start value r) ⌝ }

@@ -1,6 +1,7 @@
 // Heads, slots and runs.
 ghost use mathlib.Core.Path.{_≡_};
-ghost use Prim.Native.Nat.{_≤_};
+ghost use Prim.Native.Nat.{_+_, _≤_};
+ghost use Rattle.std.specs.Orderings.{Decides};
 ghost use Rattle.table.specs.Extents.{valueAt};
 use crate::kind::Value;
 
@@ -32,5 +33,14 @@ impl<V: Value> Slot<V> {
         ensures { λ r. ⌜ r ≡ valueAt shift self sector ⌝ }
     {
         self.value.shifted(sector - self.start)
+    }
+}
+
+impl Run {
+    // Whether the run ends at or before a length.
+    pub fn is_inside(self, length: u64) -> bool
+        ensures { λ r. ⌜ Decides r (self .start + self .length ≤ length) ⌝ }
+    {
+        self.length <= length && self.start <= length - self.length
     }
 }

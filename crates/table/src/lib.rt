@@ -1,5 +1,6 @@
 // Extent tables over any kind of value: which value each sector of a row of slots has, and the calls that change it.
 
+pub mod assign;
 pub mod edit;
 pub mod extent;
 pub mod kind;

@@ -1,0 +1,24 @@
+use native.Mathlib.Omega.{arith}
+use borrow.Author.Needs.{needs}
+use Rattle.table.proofs.Runs.{assign-order, assign-full, assign-leaves}
+use Rattle.table.proofs.assign.assign.Needs as need
+
+pub splice-requires : need.splice-requires
+splice-requires g c κs =
+    let normal = c .is-normal .ensures .0 (search needs) in
+    let order = assign-order (g .V·Value·met .lawful) (c .args .head .now) (c .args .slots .now) (c .args .run) (c .args .value) normal (search needs) (c .is-inside .ensures .0 (search needs)) (c .plan-assign-plan .result) (c .plan-assign-plan .ensures) in
+    record { front = order .0; back = order .1; room = normal .room }
+
+pub returns-in-rest : need.returns-in-rest
+returns-in-rest g c =
+    let normal = c .is-normal .ensures .0 (search needs) in
+    let inside = c .is-inside .ensures .0 (search needs) in
+    let full = assign-full (g .V·Value·met .lawful) (c .args .head .now) (c .args .slots .now) (c .args .run) (c .args .value) normal (search needs) inside (c .plan-assign-plan .result) (c .plan-assign-plan .ensures) (c .in-rest .ensures tt .1) in
+    (search needs, search needs, normal, inside, tt, tt, full)
+
+pub returns : need.returns
+returns g c =
+    let normal = c .is-normal .ensures .0 (search needs) in
+    let inside = c .is-inside .ensures .0 (search needs) in
+    let left = assign-leaves (g .V·Value·met .lawful) (c .args .head .now) (c .args .slots .now) (c .args .run) (c .args .value) normal (search needs) inside (c .plan-assign-plan .result) (c .plan-assign-plan .ensures) (c .splice .last .slots) (c .in-Some .count) (c .in-Some .ensures tt) in
+    (left, search needs, normal, inside, tt, tt)
