@@ -7,3 +7,4 @@ pub mod Finding
 pub mod Ends
 pub mod Rows
 pub mod Runs
+pub mod Lawful
