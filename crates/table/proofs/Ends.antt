@@ -17,7 +17,7 @@ use Rattle.table.specs.Kinds.{Laws}
 use Rattle.table.specs.Extents.{valueAt, at, Normal}
 use Rattle.table.specs.Maps.{Map, NoneFits, appended}
 use Rattle.table.specs.Calls.{mapOf, Leaves}
-use Rattle.table.specs.Steps.{Next, Splices}
+use Rattle.table.specs.Steps.{GoesOn, Next, Splices}
 use Rattle.table.proofs.Alike.{goes-on, via, back, apart, same-is}
 use Rattle.table.proofs.Pieces.{Part, Flat, part-like}
 use Rattle.table.proofs.Tables.{part-of, part-next, leaves-at, none-fits-at}
@@ -37,7 +37,7 @@ module _ {V : Type 0} {shift : V → ℕ → V} {same : V → V → Bool} {clear
   -- another map that has the same value before p
   pub next-like : (m w : ℕ → V) (p : ℕ) (x : V) (o : Option (Slot V)) → (0 < p → w (p - 1) ≡ m (p - 1)) → Next shift same m p x o → Next shift same w p x o
   next-like m w p x None e next = (next .0, rw (e (next .0)) (next .1))
-  next-like m w p x (Some s) e next = (next .0, λ up. rw (e up) (next .1 up))
+  next-like m w p x (Some s) e next = (next .0, next .1, λ up. rw (e up) (next .2 up))
 
   -- whether the extent before p goes on with x there, as the extent itself tells
   last-tells : (s : Slot V) (m : ℕ → V) (p : ℕ) → 0 < p → s .start ≤ p - 1 → valueAt shift s (p - 1) ≡ m (p - 1) → same (shift (m (p - 1)) 1) (valueAt shift s p) ≡ true
@@ -45,12 +45,9 @@ module _ {V : Type 0} {shift : V → ℕ → V} {same : V → V → Bool} {clear
       let one : p - (p - 1) ≡ 1 = omega arith in
       rw (e, one) at (goes-on laws s (p - 1) p le (omega arith))
 
-  pub next-joins : (s : Slot V) (m : ℕ → V) (p : ℕ) (x : V) → 0 < p → s .start ≤ p - 1 → valueAt shift s (p - 1) ≡ m (p - 1) → same (valueAt shift s p) x ≡ true → Next shift same m p x None
-  next-joins s m p x up le e joins = (up, via laws (last-tells s m p up le e) joins)
-
-  pub next-starts : (s : Slot V) (m : ℕ → V) (p : ℕ) (x : V) → 0 < p → s .start ≤ p - 1 → valueAt shift s (p - 1) ≡ m (p - 1) → same (valueAt shift s p) x ≡ false → Next shift same m p x (Some (record { start = p; value = x }))
-  next-starts s m p x up le e breaks =
-      (refl, λ _. apart laws (back laws (last-tells s m p up le e)) (laws .same-self x) breaks)
+  pub goes-on-tells : (s : Slot V) (m : ℕ → V) (p : ℕ) (x : V) (r : Bool) → 0 < p → s .start ≤ p - 1 → valueAt shift s (p - 1) ≡ m (p - 1) → r ≡ same (valueAt shift s p) x → GoesOn shift same m p x r
+  goes-on-tells s m p x true up le e is = (up, via laws (last-tells s m p up le e) (sym is))
+  goes-on-tells s m p x false up le e is = λ _. apart laws (back laws (last-tells s m p up le e)) (laws .same-self x) (sym is)
 
   -- a run of x from p to q
   module _ (w : ℕ → V) (p q : ℕ) (x : V) (is : (i : ℕ) → p ≤ i → i < q → w i ≡ shift x (i - p)) where

@@ -108,9 +108,9 @@ module _ {V : Type 0} {shift : V → ℕ → V} {same : V → V → Bool} {clear
 
 module _ {V : Type 0} {shift : V → ℕ → V} {same : V → V → Bool} {clear : V → Bool} (laws : Laws shift same clear) (m : ℕ → V) where
   -- one slot
-  pub part-one : (v : V) (a b : ℕ) → a < b → same (m a) v ≡ true → Flat shift same m a b → (0 < a → Break shift same m a) → Part shift same m (record { start = a; value = v } ∷ []) a b
-  part-one v a b up e flat broken =
-      (refl, up, (λ i h k. via laws (flat i h k) (laws .shift-same (m a) v (i - a) e)), broken, refl)
+  pub part-one : (s : Slot V) (a b : ℕ) → s .start ≡ a → a < b → same (m a) (s .value) ≡ true → Flat shift same m a b → (0 < a → Break shift same m a) → Part shift same m (s ∷ []) a b
+  part-one s a b start up e flat broken =
+      (start, up, (λ i h k. rw start (via laws (flat i h k) (laws .shift-same (m a) (s .value) (i - a) e))), broken, refl)
 
   -- the last slot goes on where the map does
   pub part-on : (ss : List (Slot V)) (a b c : ℕ) → a < b → b < c → same (shift (m (b - 1)) 1) (m b) ≡ true → Flat shift same m b c → Part shift same m ss a b → Part shift same m ss a c

@@ -20,7 +20,7 @@ use Rattle.table.specs.Kinds.{Laws}
 use Rattle.table.specs.Extents.{valueAt, at, before, Climbs, Covers, Normal}
 use Rattle.table.specs.Maps.{Map, NoneFits, assigned}
 use Rattle.table.specs.Calls.{mapOf, Leaves}
-use Rattle.table.specs.Steps.{Next, Plans, planned, Splices}
+use Rattle.table.specs.Steps.{GoesOn, Plans, planned, Splices}
 use Rattle.table.proofs.Alike.{goes-on, via, back, apart, same-is, climbs-below}
 use Rattle.table.proofs.Pieces.{begin, Part, Flat, part-le, part-like, part-append, part-drop, part-flat, begin-drop, before-below, before-above}
 use Rattle.table.proofs.Tables.{part-of, part-next, leaves-at, none-fits-at}
@@ -80,12 +80,9 @@ module _ {V : Type 0} {shift : V → ℕ → V} {same : V → V → Bool} {clear
           let sum : (i - run .start) + 1 ≡ run .length = omega arith in
           rw (within i (omega arith) (omega arith)) (rw sum at (laws .shift-more v (i - run .start) 1))
 
-      pub behind-joins : (x : V) → x ≡ old (run .start + run .length) → same (shift v (run .length)) x ≡ true → Next shift same new (run .start + run .length) (old (run .start + run .length)) None
-      behind-joins x e joins = (omega arith, rw (← e) (via laws last-of-run joins))
-
-      pub behind-starts : (x : V) → x ≡ old (run .start + run .length) → same (shift v (run .length)) x ≡ false → Next shift same new (run .start + run .length) (old (run .start + run .length)) (Some (record { start = run .start + run .length; value = x }))
-      behind-starts x e breaks =
-          rw (← e) (refl, λ up. apart laws (back laws last-of-run) (laws .same-self x) breaks)
+      pub run-tells : (x : V) (r : Bool) → x ≡ old (run .start + run .length) → r ≡ same (shift v (run .length)) x → GoesOn shift same new (run .start + run .length) (old (run .start + run .length)) r
+      run-tells x true e is = (omega arith, rw (← e) (via laws last-of-run (sym is)))
+      run-tells x false e is = λ up. rw (← e) (apart laws (back laws last-of-run) (laws .same-self x) (sym is))
 
     module _ (p : Plan V) (plans : Plans shift same h xs run v p) where
       up-to-run : (d : V) → Part shift same (new d) (take (p .front) xs ++ listOf (p .middle)) 0 (run .start + run .length)
@@ -119,7 +116,7 @@ module _ {V : Type 0} {shift : V → ℕ → V} {same : V → V → Bool} {clear
           (part-next laws (new d) (take (p .front) xs ++ listOf (p .middle)) b c (old d b) (p .tail) (omega arith)
           (same-is laws (new d b) (old d b) (above d b (omega arith)))
           (flat-like (old d) (new d) b c (λ i x y. above d i x) (part-flat laws (old d) counted 0 n b (omega arith) lt whole))
-          (plans .tail lt d) (up-to-run d))
+          (plans .tail .goes lt d) (up-to-run d))
           (part-like laws (old d) (new d) past c n b (omega arith) (λ z. omega arith) (λ i x y. above d i x) rest))
 
       -- the run is the end of the table
@@ -127,7 +124,7 @@ module _ {V : Type 0} {shift : V → ℕ → V} {same : V → V → Bool} {clear
       ends-there le d =
           let e : run .start + run .length ≡ h .length = omega arith in
           let none : past ≡ [] = ap (λ (j : ℕ). drop (before (j + 1) counted) counted) e ∙ past-end counted (h .length) (normal .covers) in
-          rw (none, plans .none le, append-nil (take (p .front) xs ++ listOf (p .middle))) (subst (Part shift same (new d) (take (p .front) xs ++ listOf (p .middle)) 0) e (up-to-run d))
+          rw (none, plans .tail .ends le, append-nil (take (p .front) xs ++ listOf (p .middle))) (subst (Part shift same (new d) (take (p .front) xs ++ listOf (p .middle)) 0) e (up-to-run d))
 
       pub assign-parts : (d : V) → Part shift same (new d) (planned xs (h .count) p) 0 (h .length)
       assign-parts d =

@@ -47,10 +47,9 @@ module _ {V : Type 0} {shift : V → ℕ → V} {same : V → V → Bool} {clear
     part-next ys p q x None up e flat next part =
         rw (append-nil ys) (part-on laws m ys 0 p q (next .0) up (via laws (next .1) (back laws e)) flat part)
     part-next ys p q x (Some s) up e flat next part =
-        rw (next .0)
-        (part-append laws m ys (record { start = p; value = x } ∷ []) 0 p q part
-        (part-one laws m x p q up e flat
-        (λ z. apart laws (laws .same-self (shift (m (p - 1)) 1)) (back laws e) (next .1 z))))
+        part-append laws m ys (s ∷ []) 0 p q part
+        (part-one laws m s p q (next .0) up (rw (next .1) e) flat
+        (λ z. apart laws (laws .same-self (shift (m (p - 1)) 1)) (back laws e) (next .2 z)))
 
     -- what is longer than the row shows that nothing that writes the map fits it
     pub none-fits : (zs : List (Slot V)) (d : V) (n row : ℕ) → Part shift same m zs 0 n → row < length zs → (ys : List (Slot V)) → Covers ys n → ((i : ℕ) → i < n → same (m i) (at shift ys d i) ≡ true) → row < length ys

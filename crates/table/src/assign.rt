@@ -2,11 +2,10 @@
 ghost use Prim.Native.Nat.{_+_, _<_, _≤_};
 ghost use lib.ListN.{length};
 ghost use mathlib.Core.Path.{_≡_};
-ghost use Rattle.std.specs.declared.option.Option.the-variants.{None};
 ghost use Rattle.table.specs.Calls.{mapOf, Assigns};
 ghost use Rattle.table.specs.Extents.{Normal};
 ghost use Rattle.table.specs.Maps.{assigned};
-ghost use Rattle.table.specs.Steps.{Next, Plans};
+ghost use Rattle.table.specs.Steps.{Behind, GoesOn, Plans};
 use crate::edit::extent_at;
 use crate::edit::slot_from;
 use crate::extent::Head;
@@ -19,23 +18,47 @@ use crate::refusal::Refusal;
 use crate::row::Plan;
 use crate::row::splice;
 
+// The slot that is left of the extent behind a run: it holds the sector right behind, and keeps what it had there.
+fn rest_behind<V: Value>(head: Head, slots: &[Slot<V>], start: u64) -> Slot<V>
+    requires normal { ⌜ Normal shift same head (now slots) ⌝ }
+    requires inside { ⌜ start < head .length ⌝ }
+    ensures starts { λ r. ⌜ r .start ≡ start ⌝ }
+    ensures value { λ r. ⌜ ((d : V) → r .value ≡ mapOf shift head (now (slots .entry)) d start) ⌝ }
+{
+    let holder = extent_at(head, slots, start);
+    Slot {
+        start,
+        value: holder.value_at(start),
+    }
+}
+
+// Whether a run that is given a value goes on with what is behind it.
+fn run_goes_on<V: Value>(head: Head, slots: &[Slot<V>], run: Run, value: V, rest: V) -> bool
+    requires normal { ⌜ Normal shift same head (now slots) ⌝ }
+    requires filled { ⌜ 0 < run .length ⌝ }
+    requires inside { ⌜ run .start + run .length ≤ head .length ⌝ }
+    requires rest { ⌜ ((d : V) → rest ≡ mapOf shift head (now slots) d (run .start + run .length)) ⌝ }
+    ensures { λ r. ⌜ ((d : V) → GoesOn shift same (assigned shift (mapOf shift head (now (slots .entry))) (run .start) (run .length) value d) (run .start + run .length) (mapOf shift head (now (slots .entry)) d (run .start + run .length)) r) ⌝ }
+{
+    value.shifted(run.length).is_same(rest)
+}
+
 // The slot with which a table goes on behind a run that is given a value, or none where it continues the run.
 fn slot_behind<V: Value>(head: Head, slots: &[Slot<V>], run: Run, value: V) -> Option<Slot<V>>
     requires normal { ⌜ Normal shift same head (now slots) ⌝ }
     requires filled { ⌜ 0 < run .length ⌝ }
     requires inside { ⌜ run .start + run .length ≤ head .length ⌝ }
-    ensures ends { λ r. ⌜ (head .length ≤ run .start + run .length → r ≡ None) ⌝ }
-    ensures goes { λ r. ⌜ (run .start + run .length < head .length → (d : V) → Next shift same (assigned shift (mapOf shift head (now (slots .entry))) (run .start) (run .length) value d) (run .start + run .length) (mapOf shift head (now (slots .entry)) d (run .start + run .length)) r) ⌝ }
+    ensures { λ r. ⌜ Behind shift same head (now (slots .entry)) run value r ⌝ }
 {
     let start = run.start + run.length;
     if start >= head.length {
         return None;
     }
-    let old = extent_at(head, slots, start).value_at(start);
-    if value.shifted(run.length).is_same(old) {
+    let rest = rest_behind(head, slots, start);
+    if run_goes_on(head, slots, run, value, rest.value) {
         return None;
     }
-    Some(Slot { start, value: old })
+    Some(rest)
 }
 
 fn plan_assign<V: Value>(head: Head, slots: &[Slot<V>], run: Run, value: V) -> Plan<V>
@@ -57,6 +80,26 @@ fn plan_assign<V: Value>(head: Head, slots: &[Slot<V>], run: Run, value: V) -> P
     }
 }
 
+// Gives a run inside a normal table another value.
+fn assign_within<V: Value>(
+    head: &mut Head,
+    slots: &mut [Slot<V>],
+    run: Run,
+    value: V,
+) -> Result<(), Refusal>
+    requires normal { ⌜ Normal shift same (now head) (now slots) ⌝ }
+    requires filled { ⌜ 0 < run .length ⌝ }
+    requires inside { ⌜ run .start + run .length ≤ now head .length ⌝ }
+    ensures { λ r. ⌜ Assigns shift same (now (head .entry)) (now (slots .entry)) run value (now (head .exit)) (now (slots .exit)) r ⌝ }
+{
+    let plan = plan_assign(*head, slots, run, value);
+    let Some(count) = splice(slots, head.count, plan) else {
+        return Err(Refusal::NoRoom);
+    };
+    head.count = count;
+    Ok(())
+}
+
 // Gives the sectors of a run the value and what it is further on.
 pub fn assign<V: Value>(
     head: &mut Head,
@@ -75,10 +118,5 @@ pub fn assign<V: Value>(
     if !run.is_inside(head.length) {
         return Err(Refusal::Outside);
     }
-    let plan = plan_assign(*head, slots, run, value);
-    let Some(count) = splice(slots, head.count, plan) else {
-        return Err(Refusal::NoRoom);
-    };
-    head.count = count;
-    Ok(())
+    assign_within(head, slots, run, value)
 }

@@ -27,12 +27,11 @@ pub struct Run {
 }
 
 impl<V: Value> Slot<V> {
-    // The value that this extent has at a sector at or past its start.
+    // The value that this extent has at a sector: past its start, its own further on.
     pub fn value_at(self, sector: u64) -> V
-        requires { ⌜ self .start ≤ sector ⌝ }
         ensures { λ r. ⌜ r ≡ valueAt shift self sector ⌝ }
     {
-        self.value.shifted(sector - self.start)
+        self.value.shifted(sector.saturating_sub(self.start))
     }
 }
 

@@ -43,7 +43,7 @@ pub fn is_normal<V: Value>(head: &Head, slots: &[Slot<V>]) -> bool
 }
 
 // How many of the counted slots start below a sector.
-pub fn count_before<V: Value>(slots: &[Slot<V>], count: usize, sector: u64) -> usize
+pub(crate) fn count_before<V: Value>(slots: &[Slot<V>], count: usize, sector: u64) -> usize
     requires { ⌜ count ≤ length (now slots) ⌝ }
     ensures { λ r. ⌜ r ≡ before sector (take count (now (slots .entry))) ⌝ }
 {

@@ -13,11 +13,11 @@ use crate::kind::Value;
 
 // What an edit leaves of a table: so many slots of its front, up to two new ones, and its slots from `back` on.
 #[derive(Clone, Copy)]
-pub struct Plan<V> {
-    pub front: usize,
-    pub middle: Option<Slot<V>>,
-    pub tail: Option<Slot<V>>,
-    pub back: usize,
+pub(crate) struct Plan<V> {
+    pub(crate) front: usize,
+    pub(crate) middle: Option<Slot<V>>,
+    pub(crate) tail: Option<Slot<V>>,
+    pub(crate) back: usize,
 }
 
 // Moves `many` slots down, from `from` to `to`.
@@ -78,7 +78,7 @@ fn place<V: Value>(slots: &mut [Slot<V>], at: usize, slot: Option<Slot<V>>)
 }
 
 // Makes the row what the plan says, and answers how many slots count then; none where they have no room.
-pub fn splice<V: Value>(slots: &mut [Slot<V>], count: usize, plan: Plan<V>) -> Option<usize>
+pub(crate) fn splice<V: Value>(slots: &mut [Slot<V>], count: usize, plan: Plan<V>) -> Option<usize>
     requires front { ⌜ plan .front ≤ plan .back ⌝ }
     requires back { ⌜ plan .back ≤ count ⌝ }
     requires room { ⌜ count ≤ length (now slots) ⌝ }
