@@ -22,17 +22,6 @@ use Rattle.table.proofs.Alike.{goes-on, via, back, apart, same-is}
 use Rattle.table.proofs.Pieces.{Part, Flat, part-like}
 use Rattle.table.proofs.Tables.{part-of, part-next, leaves-at, none-fits-at}
 
--- a slot written right behind the first count
-pub pushes-one : {V : Type 0} (xs : List (Slot V)) (count : ℕ) (s : Slot V) (o : Option (Slot V)) → o ≡ Some s → count < length xs → Splices xs (take count xs ++ listOf o) (set xs count s) (count + 1)
-pushes-one xs count s o e lt =
-    rw e
-    (record {
-      many = rw (length-push (take count xs) s, length-take-le count xs (omega arith)) refl;
-      room = rw (length-set xs count s) (omega arith);
-      front = take-more-set xs count s lt;
-      kept = drop-set-lt (count + 1) xs count s (omega arith);
-    })
-
 module _ {V : Type 0} {shift : V → ℕ → V} {same : V → V → Bool} {clear : V → Bool} (laws : Laws shift same clear) where
   -- another map that has the same value before p
   pub next-like : (m w : ℕ → V) (p : ℕ) (x : V) (o : Option (Slot V)) → (0 < p → w (p - 1) ≡ m (p - 1)) → Next shift same m p x o → Next shift same w p x o

@@ -7,4 +7,5 @@ pub mod Finding
 pub mod Ends
 pub mod Rows
 pub mod Runs
+pub mod Walking
 pub mod Lawful

@@ -8,7 +8,7 @@ use native.Mathlib.Omega.{arith}
 use lib.ListN.{length, take, drop, set, getD}
 use lib.Seq.{paste}
 use Rattle.std.proofs.shelf.Lists.{append-nil, append-assoc, take-append-drop, length-append, length-take-le, length-drop, take-at, drop-at, take-append-le, getD-append-left, getD-append-right, getD-take, getD-drop, take-more, drop-more, drop-take, set-at, set-split, length-take, take-take, drop-drop, take-all}
-use Rattle.std.proofs.shelf.Edits.{paste-more, paste-paste, length-paste}
+use Rattle.std.proofs.shelf.Edits.{paste-more, paste-paste, length-paste, take-paste, drop-paste}
 use Rattle.std.specs.declared.option.Option.{Option}
 use Rattle.std.specs.declared.option.Option.the-variants.{Some, None}
 use Rattle.std.specs.Vec.{listOf}
@@ -107,6 +107,20 @@ module _ {X : Type 0} where
   pub paste-none : (xs : List X) (at : ℕ) (o : Option X) → o ≡ None → xs ≡ paste xs at (listOf o) (length (listOf o))
   paste-none xs at o e =
       subst (λ (q : Option X). xs ≡ paste xs at (listOf q) (length (listOf q))) (sym e) (paste-nothing xs [] at)
+
+-- a list written right behind the first count
+pub put-behind : {V : Type 0} (xs new xs′ : List (Slot V)) (count n : ℕ) → n ≡ length new → count + n ≤ length xs → xs′ ≡ paste xs count new (length new) → Splices xs (take count xs ++ new) xs′ (count + n)
+put-behind xs new xs′ count n e room is =
+    let whole : take (length new) new ≡ new = take-all (length new) new (omega arith) in
+    let front : length (take count xs) ≡ count = length-take-le count xs (omega arith) in
+    let long : length xs′ ≡ length xs = ap length is ∙ length-paste xs count new (length new) (omega arith) (omega arith) in
+    let sum : count + length new ≡ count + n = omega arith in
+    record {
+      many = rw (length-append (take count xs) new) (omega arith);
+      room = omega arith;
+      front = ap (take (count + n)) is ∙ ap (λ (j : ℕ). take j (paste xs count new (length new))) (sym sum) ∙ take-paste xs count new (length new) (omega arith) (omega arith) ∙ ap (λ (l : List (Slot _)). take count xs ++ l) whole;
+      kept = ap (drop (count + n)) is ∙ rw (← sum) (drop-paste xs count new (length new) (omega arith) (omega arith));
+    }
 
 -- a plan carried out
 module _ {V : Type 0} (xs : List (Slot V)) (count : ℕ) (p : Plan V) (m t many total : ℕ) (em : m ≡ length (listOf (p .middle))) (et : t ≡ length (listOf (p .tail))) (back : p .back ≤ count) (room : count ≤ length xs) (emany : many ≡ count - p .back) (etotal : total ≡ p .front + m + t + many) where

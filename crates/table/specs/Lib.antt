@@ -4,4 +4,5 @@ pub mod Maps
 pub mod Refusals
 pub mod Calls
 pub mod Steps
+pub mod Walks
 pub mod Laws

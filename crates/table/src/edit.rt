@@ -15,6 +15,8 @@ use crate::normal::LIMIT;
 use crate::normal::count_before;
 use crate::normal::is_normal;
 use crate::refusal::Refusal;
+use crate::row::put;
+use crate::row::size;
 
 // The slot whose extent holds a sector.
 pub(crate) fn extent_at<V: Value>(head: Head, slots: &[Slot<V>], sector: u64) -> Slot<V>
@@ -90,14 +92,10 @@ fn push<V: Value>(slots: &mut [Slot<V>], count: usize, next: Option<Slot<V>>) ->
     requires { ⌜ count ≤ length (now slots) ⌝ }
     ensures { λ r. ⌜ Cases r ((now (slots .exit) ≡ now (slots .entry)) × (length (now (slots .entry)) < count + length (listOf next))) (λ n. Splices (now (slots .entry)) (take count (now (slots .entry)) ++ listOf next) (now (slots .exit)) n) ⌝ }
 {
-    let Some(slot) = next else {
-        return Some(count);
-    };
-    if count >= slots.len() {
+    if size(next) > slots.len() - count {
         return None;
     }
-    slots[count] = slot;
-    Some(count + 1)
+    Some(put(slots, count, next))
 }
 
 // Adds sectors to a table that is normal and stays within the limit.

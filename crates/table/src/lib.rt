@@ -6,5 +6,6 @@ pub mod extent;
 pub mod kind;
 pub mod mask;
 pub mod normal;
+pub mod overlay;
 pub mod refusal;
 pub mod row;

@@ -58,7 +58,7 @@ fn slide<V: Value>(slots: &mut [Slot<V>], from: usize, to: usize, many: usize)
     }
 }
 
-fn size<V: Value>(slot: Option<Slot<V>>) -> usize
+pub(crate) fn size<V: Value>(slot: Option<Slot<V>>) -> usize
     ensures { λ r. ⌜ r ≡ length (listOf slot) ⌝ }
 {
     match slot {
@@ -75,6 +75,15 @@ fn place<V: Value>(slots: &mut [Slot<V>], at: usize, slot: Option<Slot<V>>)
     if let Some(slot) = slot {
         slots[at] = slot;
     }
+}
+
+// Puts a slot, if there is one, behind the counted ones, and answers how many count then.
+pub(crate) fn put<V: Value>(slots: &mut [Slot<V>], count: usize, slot: Option<Slot<V>>) -> usize
+    requires { ⌜ count + length (listOf slot) ≤ length (now slots) ⌝ }
+    ensures { λ r. ⌜ Splices (now (slots .entry)) (take count (now (slots .entry)) ++ listOf slot) (now (slots .exit)) r ⌝ }
+{
+    place(slots, count, slot);
+    count + size(slot)
 }
 
 // Makes the row what the plan says, and answers how many slots count then; none where they have no room.
