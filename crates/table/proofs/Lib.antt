@@ -9,3 +9,4 @@ pub mod Rows
 pub mod Runs
 pub mod Walking
 pub mod Lawful
+pub mod Replays

@@ -5,4 +5,5 @@ pub mod Refusals
 pub mod Calls
 pub mod Steps
 pub mod Walks
+pub mod Histories
 pub mod Laws

@@ -3,6 +3,7 @@
 pub mod assign;
 pub mod edit;
 pub mod extent;
+pub mod history;
 pub mod kind;
 pub mod mask;
 pub mod normal;
