@@ -8,6 +8,7 @@ use table::extent::Head;
 use table::extent::Slot;
 use table::history;
 use table::history::Edit;
+use table::history::Table;
 use table::kind::Value;
 use table::refusal::Refusal;
 
@@ -15,11 +16,12 @@ use table::refusal::Refusal;
 // An answer is the refusal, or none where the edit was accepted.
 pub fn replay<V: Value>(
     slots: &mut [Slot<V>],
-    edits: &[Edit<'_, V>],
+    tables: &[Table<'_, V>],
+    edits: &[Edit<V>],
     answers: &mut [Option<Refusal>],
 ) -> Head
-    ensures ran { λ r. ⌜ Ran shift same clear (calls (now (edits .entry)) (now (answers .exit))) freshHead (now (slots .entry)) r (now (slots .exit)) ⌝ }
-    ensures holds { λ r. ⌜ Holds shift same clear (after shift clear (calls (now (edits .entry)) (now (answers .exit))) fresh) r (now (slots .exit)) ⌝ }
+    ensures ran { λ r. ⌜ Ran shift same clear (calls (now (tables .entry)) (now (edits .entry)) (now (answers .exit))) freshHead (now (slots .entry)) r (now (slots .exit)) ⌝ }
+    ensures holds { λ r. ⌜ Holds shift same clear (after shift clear (calls (now (tables .entry)) (now (edits .entry)) (now (answers .exit))) fresh) r (now (slots .exit)) ⌝ }
     ensures rest { λ _. ⌜ drop (length (now (edits .entry))) (now (answers .exit)) ≡ drop (length (now (edits .entry))) (now (answers .entry)) ⌝ }
     ensures least { λ _. ⌜ Least shift same clear ⌝ }
     ensures histories { λ _. ⌜ Histories shift same clear ⌝ }
@@ -27,5 +29,5 @@ pub fn replay<V: Value>(
     ensures prints_tell { λ _. ⌜ PrintsTell ⌝ }
     ensures commute { λ _. ⌜ Commute shift same clear ⌝ }
 {
-    history::replay(slots, edits, answers)
+    history::replay(slots, tables, edits, answers)
 }

@@ -10,4 +10,4 @@ pub returns-in-Cut : need.returns-in-Cut
 returns-in-Cut g c = simp (c .in-Cut .is) (c .cut .ensures)
 
 pub returns-in-Overlay : need.returns-in-Overlay
-returns-in-Overlay g c = simp (c .in-Overlay .is) (c .overlay .ensures)
+returns-in-Overlay g c = simp (c .in-Overlay .is) (c .overlay-listed .ensures)

@@ -11,7 +11,7 @@ use Rattle.table.proofs.history.replay.Needs as need
 pub loop-i-again : need.loop-i-again
 loop-i-again g c =
     let k = g .V·Value in (
-      ran-more (k .shift) (k .same) (k .clear) (c .args .edits .now) (c .loop-i .answers) (c .loop-i .i) (c .index-edits-i .result) (c .err .result) freshHead (c .loop-i .head) (c .args .slots .now) (c .loop-i .slots) (c .apply .last .head) (c .apply .last .slots) (c .apply .result)
+      ran-more (c .args .tables .now) (k .shift) (k .same) (k .clear) (c .args .edits .now) (c .loop-i .answers) (c .loop-i .i) (c .index-edits-i .result) (c .err .result) freshHead (c .loop-i .head) (c .args .slots .now) (c .loop-i .slots) (c .apply .last .head) (c .apply .last .slots) (c .apply .result)
           (search needs) (search needs) (c .index-edits-i .is) (c .err .ensures .value) (c .loop-i .inv .0) (c .apply .ensures),
       behind-kept (c .loop-i .answers) (c .args .answers .now) (c .loop-i .i) (c .err .result) (c .loop-i .inv .1),
     )
@@ -20,11 +20,11 @@ pub returns : need.returns
 returns g c =
     let k = g .V·Value in
     let laws = g .V·Value·met .lawful in
-    let all = calls-all (c .loop-i .i) (c .args .edits .now) (c .loop-i .answers) (search needs) in
-    let ran : Ran (k .shift) (k .same) (k .clear) (calls (c .args .edits .now) (c .loop-i .answers)) freshHead (c .args .slots .now) (c .loop-i .head) (c .loop-i .slots) = rw all at (c .loop-i .inv .0) in
+    let all = calls-all (c .args .tables .now) (c .loop-i .i) (c .args .edits .now) (c .loop-i .answers) (search needs) in
+    let ran : Ran (k .shift) (k .same) (k .clear) (calls (c .args .tables .now) (c .args .edits .now) (c .loop-i .answers)) freshHead (c .args .slots .now) (c .loop-i .head) (c .loop-i .slots) = rw all at (c .loop-i .inv .0) in
     record {
       ran = ran;
-      holds = histories-stand laws (calls (c .args .edits .now) (c .loop-i .answers)) (c .args .slots .now) (c .loop-i .head) (c .loop-i .slots) ran;
+      holds = histories-stand laws (calls (c .args .tables .now) (c .args .edits .now) (c .loop-i .answers)) (c .args .slots .now) (c .loop-i .head) (c .loop-i .slots) ran;
       rest = answers-kept (c .loop-i .answers) (c .args .answers .now) (length (c .args .edits .now)) (c .loop-i .i) (c .loop-i .kept .answers) (search needs) (c .loop-i .inv .1);
       least = least-stands laws;
       equal-maps = equal-maps-stand laws;

@@ -7,5 +7,5 @@ use Rattle.table.proofs.history.replay.Given as given
 abbrev pub Inv-loop-i : given.InvT-loop-i
 Inv-loop-i g l =
     let k = g .V·Value in
-    Ran (k .shift) (k .same) (k .clear) (calls (take (l .i) (l .edits)) (take (l .i) (l .answers))) freshHead (l .entry .slots) (l .head) (l .slots)
+    Ran (k .shift) (k .same) (k .clear) (calls (l .tables) (take (l .i) (l .edits)) (take (l .i) (l .answers))) freshHead (l .entry .slots) (l .head) (l .slots)
     × (drop (l .i) (l .answers) ≡ drop (l .i) (l .entry .answers))
