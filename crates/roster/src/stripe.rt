@@ -7,7 +7,7 @@ ghost use Rattle.std.specs.Options.{Cases};
 ghost use Rattle.std.specs.Orderings.{When};
 ghost use Rattle.std.specs.declared.option.Option.the-variants.{Some, None};
 ghost use Rattle.roster.specs.Rosters.{sizeOf, Shaped};
-ghost use Rattle.roster.specs.Places.{Roomy, stripePlace};
+ghost use Rattle.roster.specs.Places.{columnOf, rowOf, Roomy, stripePlace};
 use crate::addition::is_shaped;
 use crate::area::fits;
 use crate::entry::SetEntry;
@@ -41,7 +41,7 @@ fn is_roomy(stripe: &SetEntry, sizes: &[u64; 8]) -> bool
 
 impl StripeSet {
     // The stripe set with these numbers, if they keep the rules.
-    pub fn new(numbers: SetEntry, sizes: [u64; 8]) -> Option<StripeSet>
+    pub(crate) fn new(numbers: SetEntry, sizes: [u64; 8]) -> Option<StripeSet>
         ensures { λ r. ⌜ Cases r (Shaped numbers × Roomy numbers sizes → ⊥) (λ s. (s .numbers ≡ numbers) × (s .sizes ≡ sizes)) ⌝ }
     {
         if !is_shaped(&numbers) {
@@ -54,17 +54,27 @@ impl StripeSet {
     }
 
     // The numbers of the set.
-    pub fn numbers(&self) -> &SetEntry
+    pub(crate) fn numbers(&self) -> &SetEntry
         ensures { λ r. ⌜ now r ≡ now (self .entry) .numbers ⌝ }
     {
         &self.numbers
     }
 
     // How many sectors the set has.
-    pub fn size(&self) -> u64
+    pub(crate) fn size(&self) -> u64
         ensures { λ r. ⌜ r ≡ sizeOf (now (self .entry) .numbers) ⌝ }
     {
         self.numbers.width as u64 * (self.numbers.chunk * self.numbers.rows)
+    }
+
+    // The column and the row that hold an offset.
+    fn cell(&self, offset: u64) -> (u64, u64)
+        ensures column { λ r. ⌜ r .0 ≡ columnOf (now (self .entry) .numbers) offset ⌝ }
+        ensures row { λ r. ⌜ r .1 ≡ rowOf (now (self .entry) .numbers) offset ⌝ }
+    {
+        let q = offset / self.numbers.chunk;
+        let width = self.numbers.width as u64;
+        (q % width, q / width)
     }
 
     // Where an offset lies, if the set has it.
@@ -75,9 +85,8 @@ impl StripeSet {
             return None;
         }
         let chunk = self.numbers.chunk;
-        let width = self.numbers.width as u64;
-        let column = self.numbers.columns[(offset / chunk % width) as usize];
-        let row = offset / chunk / width;
+        let (place, row) = self.cell(offset);
+        let column = self.numbers.columns[place as usize];
         Some(Place::At {
             device: column.device,
             sector: column.base + (row * chunk + offset % chunk),

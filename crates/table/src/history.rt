@@ -48,7 +48,14 @@ fn overlay_listed<V: Value>(
     }
     let over = &tables[top];
     let under = &tables[base];
-    overlay(head, slots, &over.head, over.slots, &under.head, under.slots)
+    overlay(
+        head,
+        slots,
+        &over.head,
+        over.slots,
+        &under.head,
+        under.slots,
+    )
 }
 
 // Makes one call.

@@ -73,9 +73,9 @@ module _ (e : SetEntry) (u : Usable e) where
     columns-room j lt = let here = u .housed j lt in (here .0, omega (arith, skipped-below, here .1))
 
   -- the line of whole rows, with the columns as they were collected
-  pub rows-line-is : (E : Entries) (o at left : ℕ) (spots : List Spot) → take (e .width) spots ≡ map (further (o / (e .width * e .chunk) * e .chunk)) (columnSpots E e) → line at (left / (e .width * e .chunk) * (e .width * e .chunk)) (striped (e .chunk) (take (e .width - 0) spots)) ≡ rowsLine (e .chunk) (columnSpots E e) o at left
-  rows-line-is E o at left spots is =
-      let whole : e .width - 0 ≡ e .width = omega arith in rw (length-columns E e, whole, is)
+  pub rows-line-is : (E : Entries) (o at left n : ℕ) (spots : List Spot) → n ≡ left / (e .width * e .chunk) * (e .width * e .chunk) → take (e .width) spots ≡ map (further (o / (e .width * e .chunk) * e .chunk)) (columnSpots E e) → line at n (striped (e .chunk) (take (e .width - 0) spots)) ≡ rowsLine (e .chunk) (columnSpots E e) o at left
+  rows-line-is E o at left n spots size is =
+      let whole : e .width - 0 ≡ e .width = omega arith in rw (length-columns E e, whole, size, is)
 
   -- the spot of an offset
   pub stripe-is : (E : Entries) (o : ℕ) → stripe (e .chunk) (columnSpots E e) o ≡ spotOf E (columnAt e (o / e .chunk % e .width) .device) (columnAt e (o / e .chunk % e .width) .base + (o / e .chunk / e .width * e .chunk + o % e .chunk))

@@ -22,9 +22,11 @@ pub data Outcome : Type 0 where
   blank : Outcome
   fails : Outcome
 
+-- the first sector of a line
 abbrev pub startOf : Line → ℕ
 startOf (line a n m) = a
 
+-- how many sectors a line has
 abbrev pub lengthOf : Line → ℕ
 lengthOf (line a n m) = n
 
@@ -32,6 +34,7 @@ lengthOf (line a n m) = n
 abbrev pub further : ℕ → Spot → Spot
 further k s = record { major = s .major; minor = s .minor; sector = s .sector + k }
 
+-- what stands for a column that is not there
 abbrev pub nowhere : Spot
 nowhere = record { major = 0; minor = 0; sector = 0 }
 

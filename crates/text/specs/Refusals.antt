@@ -8,6 +8,7 @@ use Rattle.text.specs.declared.refusal.Layer.the-variants.{Table as table-laye
 use Rattle.text.specs.declared.refusal.TextRefusal.{TextRefusal}
 use Rattle.text.specs.declared.refusal.TextRefusal.the-variants.{Roster, TooLong}
 
+-- the number of a refusal; one from below keeps its own
 abbrev pub numberOf : TextRefusal → ℕ
 numberOf (Roster e) = rosterNumber e
 numberOf TooLong = 20
@@ -17,6 +18,7 @@ abbrev pub raised : Lower → Layer
 raised table-below = table-layer
 raised roster-below = roster-layer
 
+-- the layer of a refusal; one from below keeps its own
 abbrev pub layerOf : TextRefusal → Layer
 layerOf (Roster e) = raised (rosterLayer e)
 layerOf TooLong = text-layer

@@ -33,6 +33,7 @@ spaced (f ∷ fs) = 32 ∷ (f ++ spaced fs)
 abbrev pub spell : Line → List ℕ
 spell (line a n m) = decimal a ++ spaced (decimal n ∷ mappingFields m)
 
+-- one line after another
 abbrev pub textOf : List Line → List ℕ
 textOf ls = joined spell ls
 
@@ -40,15 +41,17 @@ textOf ls = joined spell ls
 abbrev pub spotText : Spot → List ℕ
 spotText s = 32 ∷ (deviceField s ++ (32 ∷ decimal (s .sector)))
 
--- every number has 64 bits
+-- every number of a spot has 64 bits
 abbrev pub SmallSpot : Spot → Type 0
 SmallSpot s = (s .major < 2 ^ 64) × (s .minor < 2 ^ 64) × (s .sector < 2 ^ 64)
 
+-- every number of a mapping has 64 bits
 abbrev pub SmallMapping : Mapping → Type 0
 SmallMapping (linear s) = SmallSpot s
 SmallMapping (striped c cols) = (length cols < 2 ^ 64) × (c < 2 ^ 64) × All SmallSpot cols
 SmallMapping zeroes = Unit {0}
 SmallMapping errors = Unit {0}
 
+-- every number of a line has 64 bits
 abbrev pub SmallLine : Line → Type 0
 SmallLine (line a n m) = (a < 2 ^ 64) × (n < 2 ^ 64) × SmallMapping m

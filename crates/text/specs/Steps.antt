@@ -39,7 +39,8 @@ linesBy (suc more) m o at left =
     let l : Line = firstLine m o at left in
     cond (eqb left 0) [] (l ∷ linesBy more m (o + lengthOf l) (at + lengthOf l) (left - lengthOf l))
 
--- all lines of an extent: each takes at least one sector, so there are at most as many as sectors
+-- All lines of an extent. Each takes at least one sector, so there are at most as many as sectors;
+-- the first line of a linear, zero or error extent takes all of them.
 abbrev pub extentLines : Mapping → ℕ → ℕ → ℕ → List Line
 extentLines m o at left = linesBy left m o at left
 

@@ -5,7 +5,7 @@ ghost use lib.ListN.{drop};
 ghost use Rattle.std.specs.Written.{decimal};
 
 // The digits stand at the end of the array, from the place that is answered.
-pub fn digits(n: u64) -> ([u8; 20], usize)
+pub(crate) fn digits(n: u64) -> ([u8; 20], usize)
     ensures within { λ r. ⌜ r .1 ≤ 20 ⌝ }
     ensures digits { λ r. ⌜ drop (r .1) (r .0) ≡ decimal n ⌝ }
 {

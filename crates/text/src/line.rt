@@ -18,7 +18,7 @@ use crate::words::STRIPED;
 use crate::words::ZERO;
 
 impl Page {
-    pub fn new() -> Page
+    pub(crate) fn new() -> Page
         ensures { λ p. ⌜ content p ≡ [] ⌝ }
     {
         Page {
@@ -37,7 +37,7 @@ impl Page {
     }
 
     // Writes what the page holds to a buffer, from a place on.
-    pub fn copy_to(&self, buffer: &mut [u8], at: usize)
+    pub(crate) fn copy_to(&self, buffer: &mut [u8], at: usize)
         requires { ⌜ at + now self .len ≤ length (now buffer) ⌝ }
         ensures { λ _. ⌜ now (buffer .exit) ≡ take at (now (buffer .entry)) ++ (content (now (self .entry)) ++ drop (at + now (self .entry) .len) (now (buffer .entry))) ⌝ }
     {
@@ -112,20 +112,20 @@ impl Page {
         self.add(b"\n");
     }
 
-    pub fn zero(&mut self, start: u64, size: u64)
+    pub(crate) fn zero(&mut self, start: u64, size: u64)
         ensures { λ _. ⌜ content (now (self .exit)) ≡ spell (line start size zeroes) ⌝ }
     {
         self.bare(start, size, ZERO);
     }
 
-    pub fn error(&mut self, start: u64, size: u64)
+    pub(crate) fn error(&mut self, start: u64, size: u64)
         ensures { λ _. ⌜ content (now (self .exit)) ≡ spell (line start size errors) ⌝ }
     {
         self.bare(start, size, ERROR);
     }
 
     // linear MAJOR:MINOR SECTOR
-    pub fn linear(&mut self, start: u64, size: u64, spot: Spot)
+    pub(crate) fn linear(&mut self, start: u64, size: u64, spot: Spot)
         ensures { λ _. ⌜ content (now (self .exit)) ≡ spell (line start size (linear spot)) ⌝ }
     {
         self.begin(start, size, LINEAR);
@@ -134,7 +134,7 @@ impl Page {
     }
 
     // striped N CHUNK and N times MAJOR:MINOR SECTOR
-    pub fn striped(&mut self, start: u64, size: u64, chunk: u64, columns: &[Spot])
+    pub(crate) fn striped(&mut self, start: u64, size: u64, chunk: u64, columns: &[Spot])
         requires { ⌜ length (now columns) ≤ 8 ⌝ }
         ensures { λ _. ⌜ content (now (self .exit)) ≡ spell (line start size (striped chunk (now (columns .entry)))) ⌝ }
     {

@@ -1,5 +1,5 @@
 // The first line of an extent, written to a page.
-ghost use Prim.Native.Nat.{ℕ, _+_, _%_, _^_, _<_, _≤_};
+ghost use Prim.Native.Nat.{ℕ, _+_, _*_, _/_, _%_, _^_, _<_, _≤_};
 ghost use mathlib.Core.List.{map};
 ghost use mathlib.Core.Path.{_≡_};
 ghost use lib.ListN.{take};
@@ -10,7 +10,6 @@ ghost use Rattle.text.specs.Printing.{spotOf, columnSpots, wholeOf, offsetOf};
 ghost use Rattle.text.specs.Spelling.{spell};
 ghost use Rattle.text.specs.Steps.{rowsLine, chunkLine};
 ghost use Rattle.text.specs.Walks.{Usable, Ready, Writes};
-use crate::line;
 use crate::page::Page;
 use crate::spot::Spot;
 use roster::entry::Entries;
@@ -48,6 +47,15 @@ fn column_spots(entries: &Entries, set: &SetEntry, skipped: u64) -> [Spot; 8]
     spots
 }
 
+// How many of the sectors that remain make whole rows.
+fn rows_size(row: u64, left: u64) -> u64
+    requires { ⌜ 0 < row ⌝ }
+    ensures { λ r. ⌜ r ≡ left / row * row ⌝ }
+{
+    let rows = left / row;
+    rows * row
+}
+
 // All whole rows that remain.
 fn rows_line(
     page: &mut Page,
@@ -63,7 +71,7 @@ fn rows_line(
     ensures size { λ r. ⌜ r ≡ lengthOf (rowsLine (now (set .entry) .chunk) (columnSpots (now (entries .entry)) (now (set .entry))) offset at left) ⌝ }
 {
     let row = set.width as u64 * set.chunk;
-    let size = left / row * row;
+    let size = rows_size(row, left);
     let spots = column_spots(entries, set, offset / row * set.chunk);
     page.striped(at, size, set.chunk, &spots[0..set.width]);
     size
@@ -130,7 +138,13 @@ fn set_line(
 }
 
 // The first line of an extent; answers how many sectors it takes.
-pub fn first_line(page: &mut Page, entries: &Entries, target: Target, at: u64, left: u64) -> u64
+pub(crate) fn first_line(
+    page: &mut Page,
+    entries: &Entries,
+    target: Target,
+    at: u64,
+    left: u64,
+) -> u64
     requires { ⌜ Ready (now entries) target ⌝ }
     ensures { λ r. ⌜ Writes (wholeOf (now (entries .entry)) target) (offsetOf target) at left (now (page .exit)) r ⌝ }
 {

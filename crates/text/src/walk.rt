@@ -26,7 +26,7 @@ fn end_of(slots: &[Slot<Target>], slot: usize, size: u64) -> u64
 }
 
 // Writes the line at the walk's place, and goes on behind it.
-pub fn next_line(
+pub(crate) fn next_line(
     page: &mut Page,
     entries: &Entries,
     slots: &[Slot<Target>],

@@ -1,4 +1,5 @@
 // What the program says of its steps.
+use roster::closed::ClosedRoster;
 use roster::place::Place;
 use roster::refusal::RosterRefusal;
 use std::io;
@@ -24,14 +25,24 @@ pub fn outcome(rt: &LibcRuntime, what: &str, answer: Result<(), RosterRefusal>) 
     println!(rt, "{what}: refused {number} {layer}")
 }
 
-// Where a sector lies: NAME SECTOR: device DEVICE sector SECTOR, zero or error.
-pub fn place(rt: &LibcRuntime, name: &str, sector: u64, place: Place) -> io::Result<()> {
+// Where a sector lies: NAME SECTOR: MAJOR:MINOR SECTOR, zero or error.
+pub fn place(
+    rt: &LibcRuntime,
+    roster: &ClosedRoster,
+    name: &str,
+    sector: u64,
+    place: Place,
+) -> io::Result<()> {
     match place {
         Place::Zero => println!(rt, "{name} {sector}: zero"),
         Place::Error => println!(rt, "{name} {sector}: error"),
-        Place::At { device, sector: at } => println!(
-            rt,
-            "{name} {sector}: device {device} sector {at}"
-        ),
+        Place::At { device, sector: at } => {
+            let Some(found) = roster.entries().devices.get(device as usize) else {
+                return println!(rt, "{name} {sector}: no device {device}");
+            };
+            let major = found.major;
+            let minor = found.minor;
+            println!(rt, "{name} {sector}: {major}:{minor} {at}")
+        }
     }
 }

@@ -9,14 +9,14 @@ use roster::closed::ClosedRoster;
 use roster::refusal::RosterRefusal;
 use roster::target::Target;
 use roster::target::TargetValue;
+use std::io;
+use std::io::Write;
 use table::extent::Head;
 use table::extent::Run;
 use table::extent::Slot;
 use table::history::Edit;
 use table::history::Table;
 use table::refusal::Refusal;
-use std::io;
-use std::io::Write;
 use text::history::replay;
 use text::print::print;
 
@@ -53,24 +53,50 @@ impl Row {
         Ok(())
     }
 
-    fn append(&mut self, rt: &LibcRuntime, roster: &ClosedRoster, what: &str, length: u64, target: Target) -> io::Result<()> {
+    fn append(
+        &mut self,
+        rt: &LibcRuntime,
+        roster: &ClosedRoster,
+        what: &str,
+        length: u64,
+        target: Target,
+    ) -> io::Result<()> {
         let answer = roster.append(&mut self.head, &mut self.slots, length, target);
         report::outcome(rt, what, answer)
     }
 
-    fn assign(&mut self, rt: &LibcRuntime, roster: &ClosedRoster, what: &str, run: Run, target: Target) -> io::Result<()> {
+    fn assign(
+        &mut self,
+        rt: &LibcRuntime,
+        roster: &ClosedRoster,
+        what: &str,
+        run: Run,
+        target: Target,
+    ) -> io::Result<()> {
         let answer = roster.assign(&mut self.head, &mut self.slots, run, target);
         report::outcome(rt, what, answer)
     }
 
-    fn cut(&mut self, rt: &LibcRuntime, roster: &ClosedRoster, what: &str, length: u64) -> io::Result<()> {
+    fn cut(
+        &mut self,
+        rt: &LibcRuntime,
+        roster: &ClosedRoster,
+        what: &str,
+        length: u64,
+    ) -> io::Result<()> {
         let answer = roster.cut(&mut self.head, &self.slots, length);
         report::outcome(rt, what, answer)
     }
 
-    fn locate(&self, rt: &LibcRuntime, roster: &ClosedRoster, name: &str, sector: u64) -> Result<(), Failure> {
+    fn locate(
+        &self,
+        rt: &LibcRuntime,
+        roster: &ClosedRoster,
+        name: &str,
+        sector: u64,
+    ) -> Result<(), Failure> {
         let place = roster.locate(&self.head, &self.slots, sector)?;
-        report::place(rt, name, sector, place)?;
+        report::place(rt, roster, name, sector, place)?;
         Ok(())
     }
 }
@@ -89,10 +115,34 @@ fn run(start: u64, length: u64) -> Run {
 
 fn make_base(rt: &LibcRuntime, roster: &ClosedRoster) -> Result<Row, Failure> {
     let mut base = fresh_row();
-    base.append(rt, roster, "base: append 100 linear 8:0 0", 100, linear(0, 0))?;
-    base.append(rt, roster, "base: append 64 of the set from its start", 64, striped(0))?;
-    base.assign(rt, roster, "base: assign 108 4 zero", run(108, 4), Target::Zero)?;
-    base.assign(rt, roster, "base: assign 164 1 zero", run(164, 1), Target::Zero)?;
+    base.append(
+        rt,
+        roster,
+        "base: append 100 linear 8:0 0",
+        100,
+        linear(0, 0),
+    )?;
+    base.append(
+        rt,
+        roster,
+        "base: append 64 of the set from its start",
+        64,
+        striped(0),
+    )?;
+    base.assign(
+        rt,
+        roster,
+        "base: assign 108 4 zero",
+        run(108, 4),
+        Target::Zero,
+    )?;
+    base.assign(
+        rt,
+        roster,
+        "base: assign 164 1 zero",
+        run(164, 1),
+        Target::Zero,
+    )?;
     base.show(rt, roster, "base")?;
     base.cut(rt, roster, "base: cut 150", 150)?;
     base.show(rt, roster, "base")?;
@@ -102,16 +152,41 @@ fn make_base(rt: &LibcRuntime, roster: &ClosedRoster) -> Result<Row, Failure> {
 fn make_top(rt: &LibcRuntime, roster: &ClosedRoster) -> Result<Row, Failure> {
     let mut top = fresh_row();
     top.append(rt, roster, "top: append 150 error", 150, Target::Error)?;
-    top.assign(rt, roster, "top: assign 20 10 linear 8:16 0", run(20, 10), linear(1, 0))?;
-    top.assign(rt, roster, "top: assign 104 4 zero", run(104, 4), Target::Zero)?;
-    top.assign(rt, roster, "top: assign 25 5 linear 8:16 4095", run(25, 5), linear(1, 4095))?;
+    top.assign(
+        rt,
+        roster,
+        "top: assign 20 10 linear 8:16 0",
+        run(20, 10),
+        linear(1, 0),
+    )?;
+    top.assign(
+        rt,
+        roster,
+        "top: assign 104 4 zero",
+        run(104, 4),
+        Target::Zero,
+    )?;
+    top.assign(
+        rt,
+        roster,
+        "top: assign 25 5 linear 8:16 4095",
+        run(25, 5),
+        linear(1, 4095),
+    )?;
     top.show(rt, roster, "top")?;
     Ok(top)
 }
 
 fn lay(rt: &LibcRuntime, roster: &ClosedRoster, top: &Row, base: &Row) -> Result<Row, Failure> {
     let mut laid = fresh_row();
-    let answer = roster.overlay(&mut laid.head, &mut laid.slots, &top.head, &top.slots, &base.head, &base.slots);
+    let answer = roster.overlay(
+        &mut laid.head,
+        &mut laid.slots,
+        &top.head,
+        &top.slots,
+        &base.head,
+        &base.slots,
+    );
     report::outcome(rt, "overlay: top on base", answer)?;
     laid.show(rt, roster, "overlay")?;
     for sector in [0u64, 24, 30, 104, 108, 112, 149] {
@@ -121,7 +196,12 @@ fn lay(rt: &LibcRuntime, roster: &ClosedRoster, top: &Row, base: &Row) -> Result
 }
 
 // The same table by its history alone: the base's edits, and the overlay as the last, applied to a fresh table.
-fn replay_all<'a>(rt: &LibcRuntime, roster: &ClosedRoster, top: &'a Row, base: &'a Row) -> Result<(), Failure> {
+fn replay_all<'a>(
+    rt: &LibcRuntime,
+    roster: &ClosedRoster,
+    top: &'a Row,
+    base: &'a Row,
+) -> Result<(), Failure> {
     let mut row = fresh_row();
     let mut answers = [None; 6];
     let tables = [

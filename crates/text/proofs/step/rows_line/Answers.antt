@@ -5,8 +5,8 @@ use Rattle.text.specs.Spelling.{spell}
 use Rattle.text.proofs.Geometry.{row-some, skipped-below, columns-room, rows-line-is}
 use Rattle.text.proofs.step.rows_line.Needs as need
 
-pub div-size : need.div-size
-div-size c = row-some _ (c .pre .usable)
+pub rows-size-size-requires : need.rows-size-size-requires
+rows-size-size-requires c κs = row-some _ (c .pre .usable)
 
 pub div-offset : need.div-offset
 div-offset c = row-some _ (c .pre .usable)
@@ -19,5 +19,5 @@ column-spots-spots-requires c κs = record { few = omega arith; room = columns-r
 
 pub returns : need.returns
 returns c =
-    let same = rows-line-is _ (c .pre .usable) (c .args .entries .now) (c .args .offset) (c .args .at) (c .args .left) _ (c .column-spots-spots .ensures) in
+    let same = rows-line-is _ (c .pre .usable) (c .args .entries .now) (c .args .offset) (c .args .at) (c .args .left) _ _ (c .rows-size-size .ensures) (c .column-spots-spots .ensures) in
     record { written = c .striped .ensures ∙ ap spell same; size = ap lengthOf same }
