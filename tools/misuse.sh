@@ -16,9 +16,11 @@ try() {
     elif grep -q -- "$want" "$copy/log"; then
         echo "$name: refused: $(grep -m 1 -- "$want" "$copy/log" | sed 's/.*error/error/' | cut -c 1-160)"
     else
-        echo "$name: failed for another reason, see $copy/log"
+        echo "$name: failed for another reason:"
+        tail -n 20 "$copy/log"
         bad=1
     fi
+    rm -rf "$copy"
 }
 closed='    println!(rt, "the roster is closed")?;'
 empty='table::extent::Head { count: 0, length: 0 }'
