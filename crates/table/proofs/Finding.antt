@@ -16,7 +16,7 @@ use Rattle.table.specs.Extents.{valueAt, valueFrom, at, before, Climbs, Covers
 use Rattle.table.specs.Calls.{mapOf, Leaves}
 use Rattle.table.proofs.Alike.{from-before, from-after}
 use Rattle.table.proofs.Pieces.{begin, Part, before-below, before-above, part-take}
-use Rattle.table.proofs.Tables.{part-of, leaves, leaves-at}
+use Rattle.table.proofs.Tables.{part-of, leaves, parts-normal, some-value}
 
 pub before-le : {V : Type 0} (a : ℕ) (xs : List (Slot V)) → before a xs ≤ length xs
 before-le a [] = omega arith
@@ -69,6 +69,12 @@ module _ {V : Type 0} (shift : V → ℕ → V) where
             there .1 x (e ∙ sym (getD-take (h .count) xs (k - 1) x (omega (arith, there .0))) ∙ ap (λ (j : ℕ). getD ys (j - 1) x) is),
       )
 
+  -- and its place is in the row
+  pub found-within : (same : V → V → Bool) (h : Head) (xs : List (Slot V)) (i k : ℕ) → Normal shift same h xs → i < h .length → k ≡ before (i + 1) (take (h .count) xs) → k - 1 < length xs
+  found-within same h xs i k normal lt is =
+      let there = found-counted same h xs i k normal lt is in
+      omega (arith, there .0, there .1, normal .room)
+
 module _ {V : Type 0} {shift : V → ℕ → V} {same : V → V → Bool} {clear : V → Bool} (laws : Laws shift same clear) where
   -- the counted slots up to n
   pub front-counted : (h : Head) (xs : List (Slot V)) (n : ℕ) → Normal shift same h xs → n ≤ h .length → (d : V) → Part shift same (mapOf shift h xs d) (take (before n (take (h .count) xs)) xs) 0 n
@@ -79,19 +85,10 @@ module _ {V : Type 0} {shift : V → ℕ → V} {same : V → V → Bool} {clear
       rw (← take-take (before n ys) (h .count) xs (omega arith))
       (part-take laws (at shift ys d) ys 0 (h .length) n (omega arith) le (part-of laws ys d (h .length) (normal .covers) (normal .distinct)))
 
-  -- a table with a sector has a value
-  value-in : (ys : List (Slot V)) (n : ℕ) → Covers ys n → (n ≡ 0) ⊎ V
-  value-in [] n covers = inl covers
-  value-in (s ∷ ss) n covers = inr (s .value)
-
   pub cut-leaves : (h : Head) (xs : List (Slot V)) (h′ : Head) → Normal shift same h xs → h′ .length ≤ h .length → h′ .count ≡ before (h′ .length) (take (h .count) xs) → Leaves shift same (mapOf shift h xs) (h′ .length) xs h′ xs
   cut-leaves h xs h′ normal le is =
-      elim (value-in ys (h .length) (normal .covers)) [
-        | inl none ↦
-            let zero-count : h′ .count ≡ 0 = is ∙ ap (λ (n : ℕ). before n ys) (omega arith) ∙ before-above ys 0 0 (omega arith) in
-            leaves laws (mapOf shift h xs) (h′ .length) xs xs (take (h′ .count) xs) h′ refl bounded room refl refl (rw zero-count (omega arith)) (rw zero-count tt) parts
-        | inr v ↦ leaves-at laws (mapOf shift h xs) (h′ .length) v xs xs (take (h′ .count) xs) h′ refl bounded room refl refl parts
-      ]
+      let both = parts-normal laws (mapOf shift h xs) (h′ .length) (take (h′ .count) xs) (λ lt. some-value laws ys (h .length) (normal .covers) (omega arith)) parts in
+      leaves laws (mapOf shift h xs) (h′ .length) xs xs (take (h′ .count) xs) h′ refl bounded room refl refl (both .0) (both .1) parts
     where
       ys : List (Slot V)
       ys = take (h .count) xs

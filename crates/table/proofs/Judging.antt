@@ -37,19 +37,34 @@ module _ {V : Type 0} (shift : V → ℕ → V) (same : V → V → Bool) where
   abbrev pub Judged : Head → List (Slot V) → Slot V → List (Slot V) → Type 0
   Judged h xs last rest = (Normal shift same h xs → Climbs last rest (h .length) × Breaks shift same last rest) × (Climbs last rest (h .length) → Breaks shift same last rest → Normal shift same h xs)
 
-  pub judged-first : (h : Head) (xs : List (Slot V)) (x : Slot V) (rest : List (Slot V)) → h .count ≤ length xs → h .length ≤ 2 ^ 40 → take (h .count) xs ≡ x ∷ rest → x .start ≡ 0 → Judged h xs x rest
-  judged-first h xs x rest room bounded e from = (
-    (λ normal. ((rw e at (normal .covers)) .1, rw e at (normal .distinct))),
-    λ up breaks. record { room = room; bounded = bounded; covers = rw e (from, up); distinct = rw e breaks },
-  )
+  -- the first slot, and what is behind it
+  module _ (h : Head) (xs : List (Slot V)) (x : Slot V) (room : h .count ≤ length xs) (some : 0 < h .count) (read : x ≡ getD xs 0 x) where
+    first : take (h .count) xs ≡ x ∷ drop 1 (take (h .count) xs)
+    first = next-counted xs (h .count) 0 x room some read
 
-  module _ (h : Head) (xs : List (Slot V)) (last x : Slot V) (ahead rest : List (Slot V)) (is : ahead ≡ x ∷ rest) (judged : Judged h xs last ahead) where
-    there : Judged h xs last (x ∷ rest)
-    there = rw is at judged
+    pub judged-first : h .length ≤ 2 ^ 40 → x .start ≡ 0 → Judged h xs x (drop 1 (take (h .count) xs))
+    judged-first bounded from = (
+      (λ normal. ((subst (λ (l : List (Slot V)). Covers l (h .length)) first (normal .covers)) .1, subst (Distinct shift same) first (normal .distinct))),
+      λ up breaks.
+          record {
+            room = room;
+            bounded = bounded;
+            covers = subst (λ (l : List (Slot V)). Covers l (h .length)) (sym first) (from, up);
+            distinct = subst (Distinct shift same) (sym first) breaks;
+          },
+    )
 
-    pub judged-more : last .start < x .start → same (valueAt shift last (x .start)) (x .value) ≡ false → Judged h xs x rest
-    judged-more lt broken =
-        ((λ normal. let both = there .0 normal in (both .0 .1, both .1 .1)), λ up breaks. there .1 (lt, up) (broken, breaks))
+    pub not-from-zero : (x .start ≡ 0 → ⊥) → Normal shift same h xs → ⊥
+    not-from-zero ne normal = ne ((subst (λ (l : List (Slot V)). Covers l (h .length)) first (normal .covers)) .0)
+
+  -- the loop has judged up to slot i, which is x
+  module _ (h : Head) (xs : List (Slot V)) (last x : Slot V) (i : ℕ) (room : h .count ≤ length xs) (lt : i < h .count) (read : x ≡ getD xs i x) (judged : Judged h xs last (drop i (take (h .count) xs))) where
+    there : Judged h xs last (x ∷ drop (i + 1) (take (h .count) xs))
+    there = rw (next-counted xs (h .count) i x room lt read) at judged
+
+    pub judged-more : last .start < x .start → same (valueAt shift last (x .start)) (x .value) ≡ false → Judged h xs x (drop (i + 1) (take (h .count) xs))
+    judged-more up broken =
+        ((λ normal. let both = there .0 normal in (both .0 .1, both .1 .1)), λ climbs breaks. there .1 (up, climbs) (broken, breaks))
 
     pub judged-flat : x .start ≤ last .start → Normal shift same h xs → ⊥
     judged-flat le normal = omega (arith, there .0 normal .0 .0)
@@ -57,13 +72,10 @@ module _ {V : Type 0} (shift : V → ℕ → V) (same : V → V → Bool) where
     pub judged-joined : same (valueAt shift last (x .start)) (x .value) ≡ true → Normal shift same h xs → ⊥
     judged-joined joins normal = both-ways (same (valueAt shift last (x .start)) (x .value)) (there .0 normal .1 .0) joins
 
-  pub judged-last : (h : Head) (xs : List (Slot V)) (last : Slot V) (ahead : List (Slot V)) → ahead ≡ [] → Judged h xs last ahead → (Normal shift same h xs → last .start < h .length) × (last .start < h .length → Normal shift same h xs)
-  judged-last h xs last ahead is judged =
-      let there = rw is at judged in
+  pub judged-last : (h : Head) (xs : List (Slot V)) (last : Slot V) (i : ℕ) → h .count ≤ length xs → h .count ≤ i → Judged h xs last (drop i (take (h .count) xs)) → (Normal shift same h xs → last .start < h .length) × (last .start < h .length → Normal shift same h xs)
+  judged-last h xs last i room le judged =
+      let there = rw (all-counted xs (h .count) i room le) at judged in
       ((λ normal. there .0 normal .0), λ up. there .1 up tt)
-
-  pub not-from-zero : (h : Head) (xs : List (Slot V)) (x : Slot V) (rest : List (Slot V)) → take (h .count) xs ≡ x ∷ rest → (x .start ≡ 0 → ⊥) → Normal shift same h xs → ⊥
-  not-from-zero h xs x rest e ne normal = ne ((rw e at (normal .covers)) .0)
 
 pub refuted : {P : Type 0} → (P → ⊥) → (false ≡ true → P) × (P → false ≡ true)
 refuted no-proof = ((λ e. absurd (true≢false (sym e))), λ p. absurd (no-proof p))

@@ -2,10 +2,12 @@
 use Prim.Native.Nat.{ℕ, zero, suc, _+_, _-_, _^_, _<_, _≤_}
 use mathlib.Core.Bool.{Bool, true, false}
 use mathlib.Core.List.{List, [], _∷_, _++_}
+use mathlib.Core.Logic.{_⊎_, inl, inr}
 use mathlib.Core.Path.{_≡_, refl, sym, ap, subst, _∙_}
 use native.Mathlib.Omega.{arith}
 use lib.ListN.{length, take, drop, getD}
 use Rattle.std.proofs.shelf.Lists.{append-nil}
+use Rattle.std.proofs.shelf.Tests.{cases-lt}
 use Rattle.std.specs.declared.option.Option.{Option}
 use Rattle.std.specs.declared.option.Option.the-variants.{Some, None}
 use Rattle.std.specs.Vec.{listOf}
@@ -56,6 +58,17 @@ module _ {V : Type 0} {shift : V → ℕ → V} {same : V → V → Bool} {clear
     none-fits zs d n row part more ys covers agree =
         let short : length zs ≤ length ys = least laws zs ys d n (covers-of zs n part) (distinct-of zs n part) covers (λ i h. via laws (back laws (agree-of zs d n part i h)) (agree i h)) in
         omega arith
+
+  -- a list that is a part of every version of a map from 0 on is normal
+  pub parts-normal : (m : Map V) (n : ℕ) (zs : List (Slot V)) → (0 < n → V) → ((d : V) → Part shift same (m d) zs 0 n) → Covers zs n × Distinct shift same zs
+  parts-normal m n [] some parts =
+      (elim (cases-lt 0 n) [ inl lt ↦ sym (parts (some lt)) | inr le ↦ omega arith ], tt)
+  parts-normal m n (s ∷ ss) some parts =
+      (covers-of (m (s .value)) (s ∷ ss) n (parts (s .value)), distinct-of (m (s .value)) (s ∷ ss) n (parts (s .value)))
+
+  pub some-value : (ys : List (Slot V)) (n : ℕ) → Covers ys n → 0 < n → V
+  some-value [] n covers lt = absurd (let z : ⊥ = omega (arith, covers) in z)
+  some-value (s ∷ ss) n covers lt = s .value
 
   module _ (m : Map V) (n : ℕ) where
     -- a list that is a part of the map, in the counted slots

@@ -25,7 +25,7 @@ use Rattle.table.specs.Walks.{laid, Reads, Layered, Told, Ready, Strides, Coun
 use Rattle.table.proofs.Alike.{via, back}
 use Rattle.table.proofs.Unique.{least}
 use Rattle.table.proofs.Pieces.{begin, Part, Flat, before-below, before-above, part-le, part-take, part-drop, begin-drop, part-flat}
-use Rattle.table.proofs.Tables.{part-of, part-next, covers-of, distinct-of, agree-of, leaves}
+use Rattle.table.proofs.Tables.{part-of, part-next, covers-of, distinct-of, agree-of, leaves, parts-normal, some-value}
 use Rattle.table.proofs.Judging.{next-counted, all-counted}
 use Rattle.table.proofs.Finding.{before-le, found-counted}
 
@@ -246,17 +246,6 @@ module _ {V : Type 0} {shift : V → ℕ → V} {same : V → V → Bool} {clear
               pushed .kept ∙ rw many (sym (drop-drop (length (listOf o)) count ys) ∙ ap (drop (length (listOf o))) (written .kept) ∙ drop-drop (length (listOf o)) count xs);
         }
 
-  -- a list that is a part of every version of a map from 0 on is normal
-  parts-normal : (m : Map V) (n : ℕ) (zs : List (Slot V)) → (0 < n → V) → ((d : V) → Part shift same (m d) zs 0 n) → Covers zs n × Distinct shift same zs
-  parts-normal m n [] some parts =
-      (elim (cases-lt 0 n) [ inl lt ↦ sym (parts (some lt)) | inr le ↦ omega arith ], tt)
-  parts-normal m n (s ∷ ss) some parts =
-      (covers-of laws (m (s .value)) (s ∷ ss) n (parts (s .value)), distinct-of laws (m (s .value)) (s ∷ ss) n (parts (s .value)))
-
-  some-value : (ys : List (Slot V)) (n : ℕ) → Covers ys n → 0 < n → V
-  some-value [] n covers lt = absurd (let z : ⊥ = omega (arith, covers) in z)
-  some-value (s ∷ ss) n covers lt = s .value
-
   -- no list that writes the map is shorter than one with no slot that continues the one before it
   no-shorter : (m : Map V) (n : ℕ) (zs ys : List (Slot V)) → Writes shift same m zs n → Distinct shift same zs → Writes shift same m ys n → length zs ≤ length ys
   no-shorter m n [] ys written distinct writes = omega arith
@@ -301,7 +290,7 @@ module _ {V : Type 0} {shift : V → ℕ → V} {same : V → V → Bool} {clear
 
   module _ (t : Head) (tops : List (Slot V)) (b : Head) (bases : List (Slot V)) (layers : Layered shift same t tops b bases) (w : Walk V) (whole : t .length ≤ w .at) where
     some-top : 0 < t .length → V
-    some-top = some-value (take (t .count) tops) (t .length) (layers .top .covers)
+    some-top = some-value laws (take (t .count) tops) (t .length) (layers .top .covers)
 
     -- a whole walk has counted the overlay's slots
     pub walked-counted : (count : ℕ) → Walked shift same clear t tops b bases w count → Counted shift same (laid shift clear t tops b bases) (t .length) count
@@ -309,7 +298,7 @@ module _ {V : Type 0} {shift : V → ℕ → V} {same : V → V → Bool} {clear
         let m : Map V = laid shift clear t tops b bases in
         let ends : w .at ≡ t .length = omega (arith, walked .ready .inside) in
         let parts : (d : V) → Part shift same (m d) (walked .list) 0 (t .length) = rw ends at (walked .part) in
-        let normal = parts-normal m (t .length) (walked .list) some-top parts in
+        let normal = parts-normal laws m (t .length) (walked .list) some-top parts in
         record {
           list = walked .list;
           writes = (normal .0, λ d i h. agree-of laws (m d) (walked .list) d (t .length) (parts d) i h);
@@ -323,5 +312,5 @@ module _ {V : Type 0} {shift : V → ℕ → V} {same : V → V → Bool} {clear
         let m : Map V = laid shift clear t tops b bases in
         let ends : w .at ≡ t .length = omega (arith, written .ready .inside) in
         let parts : (d : V) → Part shift same (m d) (take count ys) 0 (t .length) = rw ends at (written .part) in
-        let normal = parts-normal m (t .length) (take count ys) some-top parts in
+        let normal = parts-normal laws m (t .length) (take count ys) some-top parts in
         leaves laws m (t .length) xs ys (take count ys) (record { count = count; length = t .length }) refl (layers .top .bounded) (written .room) refl (written .kept) (normal .0) (normal .1) parts

@@ -1,18 +1,14 @@
 use mathlib.Core.Path.{sym}
-use native.Mathlib.Omega.{arith}
-use Rattle.table.proofs.Finding.{found-counted}
+use native.Mathlib.Nat.{le-of-lt}
+use Rattle.table.proofs.Finding.{found-within}
 use Rattle.table.proofs.Walking.{reads, begin-at, begin-end}
 use Rattle.table.proofs.overlay.piece_at.Needs as need
 
 pub offset-slots-passed : need.offset-slots-passed
-offset-slots-passed g c =
-    let there = found-counted (g .V·Value .shift) (g .V·Value .same) (c .args .head) (c .args .slots .now) (c .args .sector) (c .passed-at-passed .result) (c .pre .normal) (c .pre .inside) (c .passed-at-passed .ensures) in
-    omega (arith, there .0, there .1, c .pre .normal .room)
+offset-slots-passed g c = le-of-lt (found-within (g .V·Value .shift) (g .V·Value .same) (c .args .head) (c .args .slots .now) (c .args .sector) (c .passed-at-passed .result) (c .pre .normal) (c .pre .inside) (c .passed-at-passed .ensures))
 
 pub index-slots-passed : need.index-slots-passed
-index-slots-passed g c =
-    let there = found-counted (g .V·Value .shift) (g .V·Value .same) (c .args .head) (c .args .slots .now) (c .args .sector) (c .passed-at-passed .result) (c .pre .normal) (c .pre .inside) (c .passed-at-passed .ensures) in
-    omega (arith, there .0, there .1, c .pre .normal .room)
+index-slots-passed g c = found-within (g .V·Value .shift) (g .V·Value .same) (c .args .head) (c .args .slots .now) (c .args .sector) (c .passed-at-passed .result) (c .pre .normal) (c .pre .inside) (c .passed-at-passed .ensures)
 
 pub returns-then-passed-head : need.returns-then-passed-head
 returns-then-passed-head g c =
