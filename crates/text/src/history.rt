@@ -12,6 +12,11 @@ use table::history::Table;
 use table::kind::Value;
 use table::refusal::Refusal;
 
+// Carries the law of prints, which is about targets alone, to the call below.
+fn prints_tell()
+    ensures { λ _. ⌜ PrintsTell ⌝ }
+{}
+
 // Applies the edits to a fresh table in the lent slots, as many as there are answers for, and answers its head.
 // An answer is the refusal, or none where the edit was accepted.
 pub fn replay<V: Value>(
@@ -29,5 +34,6 @@ pub fn replay<V: Value>(
     ensures prints_tell { λ _. ⌜ PrintsTell ⌝ }
     ensures commute { λ _. ⌜ Commute shift same clear ⌝ }
 {
+    prints_tell();
     history::replay(slots, tables, edits, answers)
 }
