@@ -1,4 +1,5 @@
 // Rosters of devices and stripe sets, where a target lies under one, and the volumes made of targets.
+#![tactic(auto)]
 
 mod addition;
 pub mod area;

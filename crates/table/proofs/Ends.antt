@@ -1,16 +1,16 @@
 -- A value from a sector on: how it goes on from what is before, and what an append leaves.
-use Rattle.std.proofs.Common.{◌≡◌, ℕ, zero, suc, ◌+◌, ◌-◌, ◌^◌, ◌<◌, ◌≤◌, Bool, true, false, cond, ltb, List, [], ◌∷◌, ◌++◌, length, take, drop, set, Some, None, Option, sym, refl, ap, ◌∙◌, subst, arith}
-use Rattle.std.proofs.lemmas.List.{append-nil, length-append, length_push, length-take-le, take_more_set, drop-set-lt, length-set}
+use Rattle.std.proofs.Common.{◌≡◌, ℕ, ◌+◌, ◌-◌, ◌^◌, ◌<◌, ◌≤◌, Bool, true, false, ltb, List, ◌++◌, length, take, Some, None, Option, sym, refl, arith}
+use Rattle.std.proofs.lemmas.List.{length-append, length-take-le}
 use Rattle.std.proofs.lemmas.Bool.{cond-true, cond-false, lt-ltb, le-ltb}
 use Rattle.std.specs.Option.{option_to_list}
 use Rattle.table.specs.declared.extent.Head.{Head}
 use Rattle.table.specs.declared.extent.Slot.{Slot}
 use Rattle.table.specs.Kinds.{Laws}
-use Rattle.table.specs.Extents.{value_at, at, Normal}
-use Rattle.table.specs.Maps.{Map, NoneFits, appended}
+use Rattle.table.specs.Extents.{value_at, Normal}
+use Rattle.table.specs.Maps.{NoneFits, appended}
 use Rattle.table.specs.Calls.{map_of, Leaves}
 use Rattle.table.specs.Steps.{GoesOn, Next, Splices}
-use Rattle.table.proofs.Alike.{goes_on, via, back, apart, same_is}
+use Rattle.table.proofs.Alike.{goes_on, via, back, apart}
 use Rattle.table.proofs.Pieces.{Part, Flat, part_like}
 use Rattle.table.proofs.Tables.{part_of, part_next, leaves_at, none_fits_at}
 

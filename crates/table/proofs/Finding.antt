@@ -1,14 +1,14 @@
 -- The extent that holds a sector, and the front of a table up to one.
-use Rattle.std.proofs.Common.{◌≡◌, ℕ, zero, suc, ◌+◌, ◌-◌, ◌^◌, ◌<◌, ◌≤◌, Bool, true, false, cond, ltb, ◌⊎◌, List, [], ◌∷◌, length, get_or, take, drop, sym, refl, ap, ◌∙◌, subst, inl, inr, arith}
+use Rattle.std.proofs.Common.{◌≡◌, ℕ, suc, ◌+◌, ◌-◌, ◌^◌, ◌<◌, ◌≤◌, Bool, List, [], ◌∷◌, length, get_or, take, sym, refl, ap, ◌∙◌, subst, inl, inr, arith}
 use Rattle.std.proofs.lemmas.List.{length-take-le, get_or-take, take-take}
 use Rattle.std.proofs.lemmas.Bool.{cases_lt}
 use Rattle.table.specs.declared.extent.Head.{Head}
 use Rattle.table.specs.declared.extent.Slot.{Slot}
 use Rattle.table.specs.Kinds.{Laws}
-use Rattle.table.specs.Extents.{value_at, value_from, at, before, Climbs, Covers, Breaks, Distinct, Normal}
+use Rattle.table.specs.Extents.{value_at, value_from, at, before, Covers, Normal}
 use Rattle.table.specs.Calls.{map_of, Leaves}
 use Rattle.table.proofs.Alike.{from_before, from_after}
-use Rattle.table.proofs.Pieces.{begin, Part, before_below, before_above, part_take}
+use Rattle.table.proofs.Pieces.{Part, before_below, before_above, part_take}
 use Rattle.table.proofs.Tables.{part_of, leaves, parts_normal, some_value}
 
 pub before_le : {V : Type 0} (a : ℕ) (xs : List (Slot V)) → before a xs ≤ length xs

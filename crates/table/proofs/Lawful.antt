@@ -1,5 +1,5 @@
 -- The laws of tables, from the contracts of the calls and the laws of the kind.
-use Rattle.std.proofs.Common.{◌≡◌, ℕ, zero, suc, ◌+◌, ◌-◌, ◌^◌, ◌<◌, ◌≤◌, Bool, true, false, cond, ltb, ◌⊎◌, List, [], ◌∷◌, length, take, is_ok, Ok, Err, Result, sym, refl, ap, ◌∙◌, subst, inl, inr, arith}
+use Rattle.std.proofs.Common.{◌≡◌, ℕ, ◌+◌, ◌-◌, ◌<◌, ◌≤◌, Bool, true, false, cond, ltb, ◌⊎◌, List, [], ◌∷◌, length, take, is_ok, Ok, Err, Result, sym, refl, ap, ◌∙◌, inl, inr, arith}
 use Rattle.std.proofs.lemmas.List.{length-take-le}
 use Rattle.std.proofs.lemmas.Bool.{cases_lt, cond-true, cond-false, lt-ltb, le-ltb, true≢false}
 use Rattle.table.specs.declared.extent.Head.{Head}
@@ -9,10 +9,10 @@ use Rattle.table.specs.declared.refusal.Refusal.{Refusal}
 use Rattle.table.specs.declared.refusal.Refusal.TheVariants.{EmptyLength, BrokenTable, Outside, PastLimit, LengthsDiffer, NoRoom}
 use Rattle.table.specs.Kinds.{Laws}
 use Rattle.table.specs.Extents.{at, Covers, Distinct, Normal}
-use Rattle.table.specs.Maps.{Map, Agree, Writes, appended, assigned, over}
+use Rattle.table.specs.Maps.{Map, Agree, appended, assigned, over}
 use Rattle.table.specs.Refusals.{Answers}
-use Rattle.table.specs.Calls.{map_of, Leaves, Kept, Appends, Assigns, Cuts, Overlays}
-use Rattle.table.specs.Laws.{SameSlots, SameTables, In, Call, Mapped, changed, after, fresh, fresh_head, Does, Ran, Holds, Least, EqualMaps, Histories, Commute}
+use Rattle.table.specs.Calls.{map_of, Leaves, Assigns}
+use Rattle.table.specs.Laws.{SameSlots, In, Call, Mapped, changed, after, fresh, fresh_head, Does, Ran, Holds, Least, EqualMaps, Histories, Commute}
 use Rattle.table.specs.Laws.Call.{append, assign, cut, overlay}
 use Rattle.table.proofs.Alike.{via, back}
 use Rattle.table.proofs.Unique.{least, equal_maps, same_maps}

@@ -1,10 +1,10 @@
 -- Lists of slots piece by piece: each slot continues the map over its extent, and starts where the map breaks.
-use Rattle.std.proofs.Common.{◌≡◌, ℕ, zero, suc, ◌+◌, ◌-◌, ◌<◌, ◌≤◌, Bool, true, false, cond, ltb, ◌⊎◌, List, [], ◌∷◌, ◌++◌, length, take, drop, sym, refl, ap, ◌∙◌, subst, inl, inr, arith}
+use Rattle.std.proofs.Common.{◌≡◌, ℕ, zero, suc, ◌+◌, ◌-◌, ◌<◌, ◌≤◌, Bool, true, false, ltb, ◌⊎◌, List, [], ◌∷◌, ◌++◌, take, drop, sym, refl, ◌∙◌, subst, inl, inr, arith}
 use Rattle.std.proofs.lemmas.Bool.{cases_lt, cond-true, cond-false, lt-ltb, le-ltb}
 use Rattle.table.specs.declared.extent.Slot.{Slot}
 use Rattle.table.specs.Kinds.{Laws}
-use Rattle.table.specs.Extents.{value_at, value_from, at, before, Climbs, Covers, Breaks, Distinct}
-use Rattle.table.proofs.Alike.{from_before, from_after, from_start, climbs_below, start_value, same_is, goes_on, follows, via, back, apart}
+use Rattle.table.specs.Extents.{value_at, value_from, before, Climbs, Breaks}
+use Rattle.table.proofs.Alike.{from_before, from_after, from_start, start_value, same_is, goes_on, follows, via, back, apart}
 
 -- where the slots begin, or n where there are none
 abbrev pub begin : {V : Type 0} → List (Slot V) → ℕ → ℕ

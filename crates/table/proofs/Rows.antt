@@ -1,7 +1,7 @@
 -- Lists that are moved and written in place.
-use Rattle.std.proofs.Common.{◌≡◌, ℕ, zero, suc, ◌+◌, ◌-◌, ◌<◌, ◌≤◌, List, [], ◌∷◌, ◌++◌, length, get_or, take, drop, set, Some, None, Option, sym, refl, ap, ◌∙◌, subst, add-zero, add-one, arith}
+use Rattle.std.proofs.Common.{◌≡◌, ℕ, suc, ◌+◌, ◌-◌, ◌<◌, ◌≤◌, List, [], ◌∷◌, ◌++◌, length, get_or, take, drop, set, Some, None, Option, sym, refl, ap, ◌∙◌, subst, add-zero, add-one, arith}
 use lib.Seq.{paste}
-use Rattle.std.proofs.lemmas.List.{append-nil, append_assoc, take-append-drop, length-append, length-take-le, length-drop, take_at, drop_at, take-append-le, get_or_append_left, get_or-append_right, get_or-take, get_or-drop, take_more, drop_more, drop-take, set_at, set_split, length-take, take-take, drop-drop, take_all}
+use Rattle.std.proofs.lemmas.List.{append-nil, append_assoc, take-append-drop, length-append, length-take-le, length-drop, take_at, drop_at, take-append-le, get_or_append_left, get_or-append_right, get_or-take, get_or-drop, take_more, drop_more, drop-take, set_at, set_split, take-take, take_all}
 use Rattle.std.proofs.lemmas.List.Edits.{paste_more, paste-paste, length-paste, take-paste, drop-paste}
 use Rattle.std.specs.Option.{option_to_list}
 use Rattle.table.specs.declared.extent.Slot.{Slot}

@@ -1,5 +1,5 @@
 -- What an assign leaves: the pieces before, in and behind the run, and what is past them.
-use Rattle.std.proofs.Common.{◌≡◌, ℕ, zero, suc, ◌+◌, ◌-◌, ◌^◌, ◌<◌, ◌≤◌, Bool, true, false, cond, ltb, ◌⊎◌, List, [], ◌∷◌, ◌++◌, length, take, drop, Some, None, Option, sym, refl, ap, ◌∙◌, subst, inl, inr, arith}
+use Rattle.std.proofs.Common.{◌≡◌, ℕ, ◌+◌, ◌-◌, ◌<◌, ◌≤◌, Bool, true, false, ltb, List, [], ◌∷◌, ◌++◌, length, take, drop, sym, refl, ap, ◌∙◌, subst, inl, inr, arith}
 use Rattle.std.proofs.lemmas.List.{append-nil, append_assoc, length-take-le, drop_all}
 use Rattle.std.proofs.lemmas.Bool.{cases_lt, cond-true, cond-false, lt-ltb, le-ltb}
 use Rattle.std.specs.Option.{option_to_list}
@@ -8,11 +8,11 @@ use Rattle.table.specs.declared.extent.Run.{Run}
 use Rattle.table.specs.declared.extent.Slot.{Slot}
 use Rattle.table.specs.declared.row.Plan.{Plan}
 use Rattle.table.specs.Kinds.{Laws}
-use Rattle.table.specs.Extents.{value_at, at, before, Climbs, Covers, Normal}
-use Rattle.table.specs.Maps.{Map, NoneFits, assigned}
+use Rattle.table.specs.Extents.{before, Climbs, Covers, Normal}
+use Rattle.table.specs.Maps.{NoneFits, assigned}
 use Rattle.table.specs.Calls.{map_of, Leaves}
 use Rattle.table.specs.Steps.{GoesOn, Plans, planned, Splices}
-use Rattle.table.proofs.Alike.{goes_on, via, back, apart, same_is, climbs_below}
+use Rattle.table.proofs.Alike.{via, back, apart, same_is, climbs_below}
 use Rattle.table.proofs.Pieces.{begin, Part, Flat, part_le, part_like, part_append, part_drop, part_flat, begin_drop, before_below, before_above}
 use Rattle.table.proofs.Tables.{part_of, part_next, leaves_at, none_fits_at}
 use Rattle.table.proofs.Finding.{front_counted, before_le}

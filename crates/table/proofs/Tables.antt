@@ -1,18 +1,18 @@
 -- From tables to pieces and back: what a call has to show of the list that it leaves.
-use Rattle.std.proofs.Common.{◌≡◌, ℕ, zero, suc, ◌+◌, ◌-◌, ◌^◌, ◌<◌, ◌≤◌, Bool, true, false, ◌⊎◌, List, [], ◌∷◌, ◌++◌, length, get_or, take, drop, Some, None, Option, sym, refl, ap, ◌∙◌, subst, inl, inr, arith}
+use Rattle.std.proofs.Common.{◌≡◌, ℕ, ◌-◌, ◌^◌, ◌<◌, ◌≤◌, Bool, true, List, [], ◌∷◌, ◌++◌, length, take, drop, Some, None, Option, sym, refl, subst, inl, inr, arith}
 use Rattle.std.proofs.lemmas.List.{append-nil}
 use Rattle.std.proofs.lemmas.Bool.{cases_lt}
 use Rattle.std.specs.Option.{option_to_list}
 use Rattle.table.specs.declared.extent.Head.{Head}
 use Rattle.table.specs.declared.extent.Slot.{Slot}
 use Rattle.table.specs.Kinds.{Laws}
-use Rattle.table.specs.Extents.{value_at, value_from, at, Climbs, Covers, Breaks, Distinct, Normal}
-use Rattle.table.specs.Maps.{Map, Agree, Writes, NoneFits}
-use Rattle.table.specs.Calls.{map_of, Leaves}
+use Rattle.table.specs.Extents.{at, Covers, Distinct}
+use Rattle.table.specs.Maps.{Map, NoneFits}
+use Rattle.table.specs.Calls.{Leaves}
 use Rattle.table.specs.Steps.{Next}
-use Rattle.table.proofs.Alike.{climbs_below, via, back, apart}
+use Rattle.table.proofs.Alike.{via, back, apart}
 use Rattle.table.proofs.Unique.{least}
-use Rattle.table.proofs.Pieces.{Part, Break, Flat, part_le, part_from, part_append, part_one, part_on, normal_from}
+use Rattle.table.proofs.Pieces.{Part, Flat, part_from, part_append, part_one, part_on, normal_from}
 
 module _ {V : Type 0} {shift : V → ℕ → V} {same : V → V → Bool} {clear : V → Bool} (laws : Laws shift same clear) where
   -- a normal list is a part of its own map

@@ -1,11 +1,11 @@
 -- A normal list is the shortest that writes its map, and the only normal one.
-use Rattle.std.proofs.Common.{◌≡◌, ℕ, suc, ◌+◌, ◌-◌, ◌<◌, ◌≤◌, Bool, true, false, ◌⊎◌, List, [], ◌∷◌, length, sym, refl, ap, ◌∙◌, subst, inl, inr, arith}
+use Rattle.std.proofs.Common.{◌≡◌, ℕ, ◌-◌, ◌<◌, ◌≤◌, Bool, true, false, List, [], ◌∷◌, length, sym, refl, ap, ◌∙◌, subst, inl, inr, arith}
 use Rattle.std.proofs.lemmas.Bool.{both_ways, cases_lt, cases_order}
 use Rattle.table.specs.declared.extent.Slot.{Slot}
 use Rattle.table.specs.Kinds.{Laws}
 use Rattle.table.specs.Extents.{value_at, value_from, at, Climbs, Covers, Breaks, Distinct}
 use Rattle.table.specs.Laws.{SameSlots}
-use Rattle.table.proofs.Alike.{from_before, from_after, from_start, climbs_below, same_is, start_value, both_on}
+use Rattle.table.proofs.Alike.{from_before, from_after, from_start, climbs_below, start_value, both_on}
 
 module _ {V : Type 0} {shift : V → ℕ → V} {same : V → V → Bool} {clear : V → Bool} (laws : Laws shift same clear) where
   -- the extents of s and t agree from a sector on

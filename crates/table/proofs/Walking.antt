@@ -9,7 +9,7 @@ use Rattle.table.specs.declared.overlay.Piece.{Piece}
 use Rattle.table.specs.declared.overlay.Walk.{Walk}
 use Rattle.table.specs.Kinds.{Laws}
 use Rattle.table.specs.Extents.{value_at, at, before, Climbs, Covers, Distinct, Normal}
-use Rattle.table.specs.Maps.{Map, NoneFits, Writes, over}
+use Rattle.table.specs.Maps.{Map, NoneFits, Writes}
 use Rattle.table.specs.Calls.{map_of, Leaves}
 use Rattle.table.specs.Steps.{Next, Splices}
 use Rattle.table.specs.Walks.{laid, Reads, Layered, Told, Ready, Strides, Counted, Fits}

@@ -1,5 +1,5 @@
 -- What each call on a table owes: the answer, and what head and slots hold at the end.
-use Rattle.std.specs.Prelude.{◌≡◌, ℕ, ◌+◌, ◌^◌, ◌<◌, ◌≤◌, Bool, true, false, List, length, take, drop, Result}
+use Rattle.std.specs.Prelude.{◌≡◌, ℕ, ◌+◌, ◌^◌, ◌<◌, ◌≤◌, Bool, List, length, take, drop, Result}
 use Rattle.table.specs.declared.extent.Head.{Head}
 use Rattle.table.specs.declared.extent.Slot.{Slot}
 use Rattle.table.specs.declared.extent.Run.{Run}

@@ -1,5 +1,5 @@
 -- Maps: a value for each sector, and what it is to write one.
-use Rattle.std.specs.Prelude.{◌≡◌, ℕ, ◌+◌, ◌-◌, ◌<◌, ◌≤◌, Bool, true, false, cond, List, [], ◌∷◌, length, nat_lt}
+use Rattle.std.specs.Prelude.{◌≡◌, ℕ, ◌+◌, ◌-◌, ◌<◌, Bool, true, cond, List, length, nat_lt}
 use Rattle.table.specs.declared.extent.Slot.{Slot}
 use Rattle.table.specs.Extents.{at, Covers}
 

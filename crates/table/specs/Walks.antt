@@ -1,5 +1,5 @@
 -- What the steps of an overlay's walk over its top and its base answer.
-use Rattle.std.specs.Prelude.{◌≡◌, ℕ, ◌+◌, ◌-◌, ◌<◌, ◌≤◌, Bool, true, false, List, length, take, Some, None, Option}
+use Rattle.std.specs.Prelude.{◌≡◌, ℕ, ◌+◌, ◌-◌, ◌<◌, ◌≤◌, Bool, true, List, length, take, Some, None, Option}
 use Rattle.table.specs.declared.extent.Head.{Head}
 use Rattle.table.specs.declared.extent.Slot.{Slot}
 use Rattle.table.specs.declared.overlay.Piece.{Piece}

@@ -1,4 +1,5 @@
 // Extent tables over any kind of value: which value each sector of a row of slots has, and the calls that change it.
+#![tactic(auto)]
 
 pub mod assign;
 pub mod edit;

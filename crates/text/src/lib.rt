@@ -1,4 +1,5 @@
 // Device-mapper tables as text: what a line means, how it is spelled, and printing the lines of a volume.
+#![tactic(auto)]
 
 mod course;
 mod digits;

@@ -1,4 +1,6 @@
 // Works one task from beginning to end: a shelf, a base and a top volume, the overlay of the two, and their tables.
+#![tactic(auto)]
+
 mod failure;
 mod report;
 mod shelf;

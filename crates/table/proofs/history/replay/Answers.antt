@@ -1,4 +1,4 @@
-use Rattle.std.proofs.Common.{◌≡◌, length, take, sym, ap, ◌∙◌, arith, rules}
+use Rattle.std.proofs.Common.{length, rules}
 use Rattle.table.specs.Histories.{calls}
 use Rattle.table.specs.Laws.{Ran, fresh_head}
 use Rattle.table.proofs.Lawful.{least_stands, equal_maps_stand, histories_stand, commute_stands}
@@ -7,7 +7,7 @@ use Rattle.table.proofs.history.replay.Goals as goal
 
 pub loop-i-preserved : goal.loop-i-preserved
 loop-i-preserved g c =
-    let k = g.V-as-Value in (
+    let k = g.V.Value in (
       ran_more c.args.tables.now k.shift k.same k.clear c.args.edits.now c.loop-i.answers c.loop-i.i c.index-edits-i.result c.err.result fresh_head c.loop-i.head c.args.slots.now c.loop-i.slots c.apply.new.head c.apply.new.slots c.apply.result
           (search rules) (search rules) c.index-edits-i.is c.err.ensures.value c.loop-i.invariant.0 c.apply.ensures,
       behind_kept c.loop-i.answers c.args.answers.now c.loop-i.i c.err.result c.loop-i.invariant.1,
@@ -15,7 +15,7 @@ loop-i-preserved g c =
 
 pub returns : goal.returns
 returns g c =
-    let k = g.V-as-Value in
+    let k = g.V.Value in
     let laws = g.met.V.Value.lawful in
     let all = calls_all c.args.tables.now c.loop-i.i c.args.edits.now c.loop-i.answers (search rules) in
     let ran : Ran k.shift k.same k.clear (calls c.args.tables.now c.args.edits.now c.loop-i.answers) fresh_head c.args.slots.now c.loop-i.head c.loop-i.slots = rw all at c.loop-i.invariant.0 in

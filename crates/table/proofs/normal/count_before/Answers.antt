@@ -1,4 +1,4 @@
-use Rattle.std.proofs.Common.{take, drop, ap, ◌∙◌, arith}
+use Rattle.std.proofs.Common.{take, drop, ap, arith}
 use Rattle.table.specs.Extents.{before}
 use Rattle.table.proofs.Judging.{next_counted, all_counted, before_more, before_ends}
 use Rattle.table.proofs.normal.count_before.Goals as goal

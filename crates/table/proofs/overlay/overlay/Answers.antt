@@ -5,14 +5,14 @@ use Rattle.table.proofs.overlay.overlay.Goals as goal
 
 pub returns-then-needed-slots : goal.returns-then-needed-slots
 returns-then-needed-slots g c =
-    let t = c.args.top-head.now in
-    let full = counted_full g.met.V.Value.lawful (laid g.V-as-Value.shift g.V-as-Value.clear t c.args.top.now c.args.base-head.now c.args.base.now) t.length c.count-over-needed.result (length c.args.slots.now)
-    c.count-over-needed.ensures c.if-needed-slots.true in
+    let t = c.args.top_head.now in
+    let full = counted_full g.met.V.Value.lawful (laid g.V.Value.shift g.V.Value.clear t c.args.top.now c.args.base_head.now c.args.base.now) t.length c.count_over-needed.result (length c.args.slots.now)
+    c.count_over-needed.ensures c.if-needed-slots.true in
     (search rules, search rules, search rules, tt, tt, search rules, full)
 
-pub write-over-count-requires : goal.write-over-count-requires
-write-over-count-requires g c =
+pub write_over-count-requires : goal.write_over-count-requires
+write_over-count-requires g c =
     record {
-      layers = record { top = search rules; base = search rules; level = c.if-top-head-base-head.false };
-      room = (c.count-over-needed.result, c.count-over-needed.ensures, c.if-needed-slots.false);
+      layers = record { top = search rules; base = search rules; level = c.if-top_head-base_head.false };
+      room = (c.count_over-needed.result, c.count_over-needed.ensures, c.if-needed-slots.false);
     }

@@ -4,8 +4,8 @@ use Rattle.table.proofs.overlay.step.Goals as goal
 
 pub returns : goal.returns
 returns g c =
-    let goes = steps g.met.V.Value.lawful c.args.top-head c.args.top.now c.args.base-head c.args.base.now c.requires.layers c.args.walk c.requires.ready
-    c.piece-at-over.result c.piece-at-under.result c.piece-at-over.ensures c.piece-at-under.ensures
-    c.value-over-value.result c.value-over-value.ensures c.min-end.result (omega arith) (omega arith) (omega arith)
-    c.shifted.result c.slot-at.result c.shifted.ensures c.slot-at.ensures in
+    let goes = steps g.met.V.Value.lawful c.args.top_head c.args.top.now c.args.base_head c.args.base.now c.requires.layers c.args.walk c.requires.ready
+    c.piece_at-over.result c.piece_at-under.result c.piece_at-over.ensures c.piece_at-under.ensures
+    c.value_over-value.result c.value_over-value.ensures c.min-end.result (omega arith) (omega arith) (omega arith)
+    c.shifted.result c.slot_at.result c.shifted.ensures c.slot_at.ensures in
     record { ready = goes.0; strides = goes.1 }

@@ -3,7 +3,7 @@ use Rattle.table.proofs.Walking.{Written}
 use Rattle.table.proofs.overlay.write_over.Given as goal
 
 abbrev pub invariant-loop-walk : goal.invariant-loop-walk
-invariant-loop-walk g l = let k = g.V-as-Value in Written k.shift k.same k.clear l.top-head l.top l.base-head l.base l.initial.slots l.walk l.slots l.count
+invariant-loop-walk g l = let k = g.V.Value in Written k.shift k.same k.clear l.top_head l.top l.base_head l.base l.initial.slots l.walk l.slots l.count
 
 abbrev pub decreases-loop-walk : goal.decreases-loop-walk
-decreases-loop-walk g l = l.top-head.length - l.walk.at
+decreases-loop-walk g l = l.top_head.length - l.walk.at
