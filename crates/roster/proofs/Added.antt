@@ -1,5 +1,5 @@
 -- What an addition that is judged good leaves is a sound roster.
-use Rattle.std.proofs.Common.{◌≡◌, ℕ, ◌+◌, ◌*◌, ◌<◌, ◌≤◌, Bool, true, false, ◌≢◌, ◌⊎◌, List, length, get_or, set, replicate, Ok, MatchBool, sym, refl, ap, ◌∙◌, subst, inl, inr, ⊎_elim, arith}
+use Rattle.std.proofs.Common.{◌≡◌, ℕ, ◌+◌, ◌*◌, ◌<◌, ◌≤◌, Bool, true, false, ◌≢◌, ◌⊎◌, List, length, get_or, set, Ok, MatchBool, sym, refl, ap, ◌∙◌, subst, inl, inr, ⊎_elim, arith}
 use Rattle.std.proofs.lemmas.Nat.{mul-lt}
 use Rattle.std.proofs.lemmas.List.{length-set, get_or-set_same, get_or-set_other, get_or_append_left}
 use Rattle.std.proofs.lemmas.Bool.{cases_lt, false≢true}
@@ -7,9 +7,9 @@ use Rattle.roster.specs.declared.entry.Device.{Device}
 use Rattle.roster.specs.declared.entry.Column.{Column}
 use Rattle.roster.specs.declared.entry.SetEntry.{SetEntry}
 use Rattle.roster.specs.declared.entry.Entries.{Entries}
-use Rattle.roster.specs.Rosters.{device_at, set_at, column_at, span, SoundDevice, Twins, Shaped, Sound, SoundDevices, NoTwins, ShapedSets, HousedSets, NoClash, Clash, Share, area_of}
+use Rattle.roster.specs.Rosters.{device_at, set_at, column_at, span, SoundDevice, Twins, Shaped, Sound, SoundDevices, NoTwins, ShapedSets, HousedSets, NoClash, Share, area_of}
 use Rattle.roster.proofs.Areas.{share_back}
-use Rattle.roster.specs.Additions.{with_device, DeviceJudged, entry_of, with_set, NamesListed, Housed, Apart, ColumnsApart, Fitting, SetJudged}
+use Rattle.roster.specs.Additions.{with_device, DeviceJudged, entry_of, with_set, NamesListed, Housed, Apart, Fitting, SetJudged}
 
 span_some : (c r : ℕ) → 0 < c → 1 ≤ r → 0 < c * r
 span_some c r h l = omega (arith, mul-lt 0 0 c r h l)

@@ -1,9 +1,9 @@
 -- From what the calls on tables promise to what the calls on volumes do.
-use Rattle.std.proofs.Common.{◌≡◌, ℕ, ◌+◌, ◌<◌, ◌≤◌, List, length, Ok, Err, Result, sym, refl, ap, ◌∙◌, arith}
+use Rattle.std.proofs.Common.{◌≡◌, ℕ, ◌<◌, List, Ok, Err, Result, ap, ◌∙◌, arith}
 use Rattle.table.specs.declared.extent.Head.{Head}
 use Rattle.table.specs.declared.extent.Slot.{Slot}
 use Rattle.table.specs.declared.extent.Run.{Run}
-use Rattle.table.specs.Maps.{Map, appended, assigned, over}
+use Rattle.table.specs.Maps.{Map}
 use Rattle.table.specs.Calls.{map_of, Leaves, Appends, Assigns, Cuts, Overlays}
 use Rattle.roster.specs.declared.entry.Entries.{Entries}
 use Rattle.roster.specs.declared.place.Place.{Place}

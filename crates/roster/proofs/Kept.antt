@@ -8,12 +8,14 @@ use Rattle.roster.specs.Places.{column_of}
 use Rattle.roster.proofs.Stripes.{depth_of, span_bounded, size_bounded, sector_bounded}
 use Rattle.roster.specs.Rosters.{column_at, span, size_of, Room, FewDevices, FewSets, SoundDevices, NoTwins, ShapedSets, HousedSets, NoClash, Sound}
 
--- what the ghost fields say, in their order
+-- what the ghost fields say
 abbrev pub Owed : Entries → Type 0
-Owed E = Room E × (FewDevices E × (FewSets E × (SoundDevices E × (NoTwins E × (ShapedSets E × (HousedSets E × (NoClash E × Unit {0})))))))
+Owed E =
+    record { room : Room E; few : FewDevices E; fewer : FewSets E; sound : SoundDevices E; twins : NoTwins E; shaped : ShapedSets E; housed : HousedSets E; apart : NoClash E }
 
 pub owed : (E : Entries) → Sound E → Owed E
-owed E s = (s.room, (s.few_devices, (s.few_sets, (s.devices, (s.twins, (s.shaped, (s.housed, (s.apart, tt))))))))
+owed E s =
+    record { room = s.room; few = s.few_devices; fewer = s.few_sets; sound = s.devices; twins = s.twins; shaped = s.shaped; housed = s.housed; apart = s.apart }
 
 pub open_sound : (r : OpenRoster) → Sound r.entries
 open_sound r =

@@ -1,10 +1,9 @@
 -- Runs of sectors: judged by their ends, lawful at every sector.
-use Rattle.std.proofs.Common.{◌≡◌, ℕ, ◌+◌, ◌-◌, ◌%◌, ◌^◌, ◌<◌, ◌≤◌, ◌⊎◌, sym, refl, ap, ◌∙◌, subst, ⊎_elim, mod-eq_of_lt, arith}
-use Rattle.std.proofs.lemmas.Bool.{cases_lt}
+use Rattle.std.proofs.Common.{◌≡◌, ℕ, ◌+◌, ◌-◌, ◌%◌, ◌^◌, ◌<◌, ◌≤◌, sym, refl, ◌∙◌, mod-eq_of_lt, arith}
 use Rattle.roster.specs.declared.area.Area.{Area}
 use Rattle.roster.specs.declared.entry.Entries.{Entries}
-use Rattle.roster.specs.declared.target.Target.TheVariants.{Linear, Striped}
-use Rattle.roster.specs.Rosters.{device_at, set_at, area_of, Holds, Share, Owned, AllClear}
+use Rattle.roster.specs.declared.target.Target.TheVariants.{Linear}
+use Rattle.roster.specs.Rosters.{device_at, AllClear}
 use Rattle.roster.specs.Places.{Lawful, Clears}
 
 -- a number of 64 bits is itself modulo 2 to the power 64

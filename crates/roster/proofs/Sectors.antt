@@ -1,5 +1,5 @@
 -- A table of targets is lawful in every extent exactly if it is fair at every sector, so what a call leaves is judged sector by sector.
-use Rattle.std.proofs.Common.{◌≡◌, ℕ, ◌+◌, ◌-◌, ◌%◌, ◌^◌, ◌<◌, ◌≤◌, Bool, true, false, cond, ◌&&◌, eqb, ltb, List, [], ◌∷◌, length, take, sym, refl, ap, ◌∙◌, subst, mod-lt, arith}
+use Rattle.std.proofs.Common.{◌≡◌, ℕ, ◌+◌, ◌-◌, ◌%◌, ◌^◌, ◌<◌, ◌≤◌, true, cond, eqb, ltb, List, [], ◌∷◌, take, sym, refl, ◌∙◌, subst, mod-lt, arith}
 use Rattle.std.proofs.lemmas.Bool.{ltb-true, ltb-false, lt-ltb, le-ltb, eqb-true, and_parts, cond_both, cond-true, cond-false, false≢true}
 use Rattle.table.specs.declared.extent.Head.{Head}
 use Rattle.table.specs.declared.extent.Slot.{Slot}
@@ -10,7 +10,7 @@ use Rattle.roster.specs.declared.entry.Entries.{Entries}
 use Rattle.roster.specs.declared.target.Target.{Target}
 use Rattle.roster.specs.declared.target.Target.TheVariants.{Zero, Error, Linear, Striped}
 use Rattle.roster.specs.Targets.{shift_target, same_target, clear_target}
-use Rattle.roster.specs.Places.{Fair, Lawful, next, AllLawful, Volume}
+use Rattle.roster.specs.Places.{Fair, Lawful, AllLawful, Volume}
 use Rattle.roster.proofs.Runs.{plain}
 
 -- sector and offset have 64 bits

@@ -1,15 +1,11 @@
 -- On fair targets the place tells the target: linear ones lie outside all areas, areas share no sector, and a set's offsets go one to one.
-use Rattle.std.proofs.Common.{◌≡◌, ℕ, ◌+◌, ◌*◌, ◌/◌, ◌%◌, ◌^◌, ◌<◌, ◌≤◌, true, ◌&&◌, eqb, ◌⊎◌, sym, refl, ap, ◌∙◌, subst, inl, inr, ⊎_elim, arith}
+use Rattle.std.proofs.Common.{◌≡◌, ℕ, ◌+◌, ◌%◌, ◌^◌, ◌<◌, ◌≤◌, true, ◌&&◌, eqb, sym, refl, ap, ◌∙◌, subst, ⊎_elim, arith}
 use Rattle.std.proofs.lemmas.Bool.{cases_eq, eq-eqb, and_from}
-use Rattle.roster.specs.declared.entry.SetEntry.{SetEntry}
 use Rattle.roster.specs.declared.entry.Entries.{Entries}
-use Rattle.roster.specs.declared.place.Place.{Place}
-use Rattle.roster.specs.declared.place.Place.TheVariants.{Zero as zero_place, Error as error_place, At}
-use Rattle.roster.specs.declared.target.Target.{Target}
+use Rattle.roster.specs.declared.place.Place.TheVariants.{At}
 use Rattle.roster.specs.declared.target.Target.TheVariants.{Zero, Error, Linear, Striped}
-use Rattle.roster.specs.Rosters.{set_at, column_at, span, size_of, area_of, Holds, Listed, Owned, Clash, Sound}
-use Rattle.roster.specs.Targets.{same_target}
-use Rattle.roster.specs.Places.{column_of, row_of, stripe_place, place_of, Fair, PlacesTell}
+use Rattle.roster.specs.Rosters.{set_at, column_at, span, size_of, area_of, Holds, Listed, Sound}
+use Rattle.roster.specs.Places.{column_of, stripe_place, Fair, PlacesTell}
 use Rattle.roster.proofs.Stripes.{depth_of, column_below, depth_below, offset_back}
 
 at_device : (d s e t : ℕ) → At d s ≡ At e t → d ≡ e

@@ -1,5 +1,5 @@
 -- What adding to a roster answers and leaves.
-use Rattle.std.specs.Prelude.{◌≡◌, ℕ, ◌+◌, ◌-◌, ◌^◌, ◌<◌, ◌≤◌, Bool, true, false, List, ◌++◌, length, set, replicate, Ok, Err, Result, ◌≢◌, slice_index_or, slice_set}
+use Rattle.std.specs.Prelude.{◌≡◌, ℕ, ◌+◌, ◌-◌, ◌^◌, ◌<◌, ◌≤◌, Bool, true, List, ◌++◌, length, replicate, Ok, Err, Result, ◌≢◌, slice_index_or, slice_set}
 use Rattle.roster.specs.declared.entry.Device.{Device}
 use Rattle.roster.specs.declared.entry.Column.{Column}
 use Rattle.roster.specs.declared.entry.SetEntry.{SetEntry}

@@ -1,5 +1,5 @@
 -- What a roster lists, and the rules that devices, stripe sets and their areas keep.
-use Rattle.std.specs.Prelude.{◌≡◌, ℕ, ◌+◌, ◌*◌, ◌^◌, ◌<◌, ◌≤◌, List, [], length, slice_index_or}
+use Rattle.std.specs.Prelude.{◌≡◌, ℕ, ◌+◌, ◌*◌, ◌^◌, ◌<◌, ◌≤◌, [], length, slice_index_or}
 use Rattle.roster.specs.declared.area.Area.{Area}
 use Rattle.roster.specs.declared.entry.Device.{Device}
 use Rattle.roster.specs.declared.entry.Column.{Column}

@@ -10,7 +10,7 @@ use Rattle.roster.specs.declared.target.Target.{Target}
 use Rattle.roster.specs.Places.{Volume}
 use Rattle.text.specs.declared.refusal.TextRefusal.{TextRefusal}
 use Rattle.text.specs.declared.refusal.TextRefusal.TheVariants.{Roster, TooLong}
-use Rattle.text.specs.Printing.{text_for, printed, Fills, Prints}
+use Rattle.text.specs.Printing.{text_for, Fills, Prints}
 use Rattle.text.specs.Walks.{Goes, Within}
 use Rattle.text.proofs.Showing.{goes_volume}
 

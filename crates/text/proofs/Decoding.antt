@@ -1,9 +1,9 @@
 -- Spelling is one to one: a text has one list of lines.
-use Rattle.std.proofs.Common.{◌≡◌, ℕ, ◌+◌, ◌%◌, ◌^◌, ◌<◌, ◌≤◌, Bool, true, ◌&&◌, ltb, List, [], ◌∷◌, ◌++◌, length, get_or, codes, decimal, sym, refl, ap, ◌∙◌, subst, append_assoc, arith, length-append}
+use Rattle.std.proofs.Common.{◌≡◌, ℕ, ◌+◌, ◌%◌, ◌^◌, ◌<◌, Bool, true, ◌&&◌, ltb, List, [], ◌∷◌, ◌++◌, length, get_or, codes, decimal, sym, refl, ap, ◌∙◌, subst, append_assoc, arith, length-append}
 use Rattle.std.proofs.lemmas.Bool.{and_parts, ltb-true}
 use Rattle.std.proofs.lemmas.Fmt.{decimal_by_steps, decimal_injective}
 use Rattle.std.proofs.ByRecursion.{All-append, All-push, All-weaker}
-use Rattle.std.specs.List.{flat_map, AllByRecursion as All}
+use Rattle.std.specs.List.{flat_map, AllByRecursion}
 use Rattle.text.specs.declared.spot.Spot.{Spot}
 use Rattle.text.specs.Lines.{Line, line, Mapping, linear, striped, zeroes, errors}
 use Rattle.text.specs.Spelling.{device_field, spot_fields, mapping_fields, spaced, spell, text_of, SmallSpot, SmallMapping, SmallLine}
@@ -14,7 +14,7 @@ Stop P [] = ⊥
 Stop P (b ∷ bs) = P b → ⊥
 
 -- a word of P bytes ends where the first other byte stands
-cut : (P : ℕ → Type 0) (v w r s : List ℕ) → All P v → All P w → Stop P r → Stop P s → v ++ r ≡ w ++ s → (v ≡ w) × (r ≡ s)
+cut : (P : ℕ → Type 0) (v w r s : List ℕ) → AllByRecursion P v → AllByRecursion P w → Stop P r → Stop P s → v ++ r ≡ w ++ s → (v ≡ w) × (r ≡ s)
 cut P [] [] r s av aw hr hs e = (refl, e)
 cut P [] (b ∷ w) [] s av aw hr hs e = absurd hr
 cut P [] (b ∷ w) (a ∷ r) s av aw hr hs e = let same : b ≡ a = cc in absurd (hr (subst P same aw.0))
@@ -33,12 +33,12 @@ Inner b = 32 < b
 abbrev Digit : ℕ → Type 0
 Digit b = (47 < b) × (b < 58)
 
-digits_of : (n : ℕ) → n < 2 ^ 64 → All Digit (decimal n)
+digits_of : (n : ℕ) → n < 2 ^ 64 → AllByRecursion Digit (decimal n)
 digits_of n small =
-    decimal_by_steps (λ _ ds. All Digit ds) (λ m l. ((omega arith, omega arith), tt))
+    decimal_by_steps (λ _ ds. AllByRecursion Digit ds) (λ m l. ((omega arith, omega arith), tt))
     (λ m ds l h. All-push Digit ds (48 + m % 10) h (omega arith, omega arith)) n small
 
-inner_decimal : (n : ℕ) → n < 2 ^ 64 → All Inner (decimal n)
+inner_decimal : (n : ℕ) → n < 2 ^ 64 → AllByRecursion Inner (decimal n)
 inner_decimal n small = All-weaker Digit Inner (λ b h. omega arith) (decimal n) (digits_of n small)
 
 spaced_stops : (fs : List (List ℕ)) (x : List ℕ) → Stop Inner (spaced fs ++ x)
@@ -46,7 +46,7 @@ spaced_stops [] x = λ h. omega arith
 spaced_stops (f ∷ fs) x = λ h. omega arith
 
 -- the fields of a line, and what stands behind it
-spaced_cut : (fs gs : List (List ℕ)) (x y : List ℕ) → All (All Inner) fs → All (All Inner) gs → spaced fs ++ x ≡ spaced gs ++ y → (fs ≡ gs) × (x ≡ y)
+spaced_cut : (fs gs : List (List ℕ)) (x y : List ℕ) → AllByRecursion (AllByRecursion Inner) fs → AllByRecursion (AllByRecursion Inner) gs → spaced fs ++ x ≡ spaced gs ++ y → (fs ≡ gs) × (x ≡ y)
 spaced_cut [] [] x y af ag e = (refl, cc)
 spaced_cut [] (g ∷ gs) x y af ag e = let z : ◌≡◌ {A = ℕ} 10 32 = cc in absurd (omega arith)
 spaced_cut (f ∷ fs) [] x y af ag e = let z : ◌≡◌ {A = ℕ} 32 10 = cc in absurd (omega arith)
@@ -57,26 +57,26 @@ spaced_cut (f ∷ fs) (g ∷ gs) x y af ag e =
     let rest = spaced_cut fs gs x y af.1 ag.1 here.1 in
     ((λ i. here.0 i ∷ rest.0 i), rest.1)
 
-inner_spot : (s : Spot) → SmallSpot s → All (All Inner) (spot_fields s)
+inner_spot : (s : Spot) → SmallSpot s → AllByRecursion (AllByRecursion Inner) (spot_fields s)
 inner_spot s small = (
   All-append Inner (decimal s.major) (58 ∷ decimal s.minor) (inner_decimal s.major small.0) (omega arith, inner_decimal s.minor small.1),
   (inner_decimal s.sector small.2, tt),
 )
 
-inner_spots : (cols : List Spot) → All SmallSpot cols → All (All Inner) (flat_map spot_fields cols)
+inner_spots : (cols : List Spot) → AllByRecursion SmallSpot cols → AllByRecursion (AllByRecursion Inner) (flat_map spot_fields cols)
 inner_spots [] small = tt
-inner_spots (s ∷ cols) small = All-append (All Inner) (spot_fields s) (flat_map spot_fields cols) (inner_spot s small.0) (inner_spots cols small.1)
+inner_spots (s ∷ cols) small = All-append (AllByRecursion Inner) (spot_fields s) (flat_map spot_fields cols) (inner_spot s small.0) (inner_spots cols small.1)
 
 -- words of letters have inner bytes, which computes
 abbrev inner_bytes : List ℕ → Bool
 inner_bytes [] = true
 inner_bytes (b ∷ bs) = ltb 32 b && inner_bytes bs
 
-inner_word : (bs : List ℕ) → inner_bytes bs ≡ true → All Inner bs
+inner_word : (bs : List ℕ) → inner_bytes bs ≡ true → AllByRecursion Inner bs
 inner_word [] e = tt
 inner_word (b ∷ bs) e = let t = and_parts (ltb 32 b) (inner_bytes bs) e in (ltb-true 32 b t.0, inner_word bs t.1)
 
-inner_mapping : (m : Mapping) → SmallMapping m → All (All Inner) (mapping_fields m)
+inner_mapping : (m : Mapping) → SmallMapping m → AllByRecursion (AllByRecursion Inner) (mapping_fields m)
 inner_mapping (linear s) small = (inner_word (codes "linear") refl, inner_spot s small)
 inner_mapping (striped c cols) small =
     (inner_word (codes "striped") refl, (inner_decimal (length cols) small.0, (inner_decimal c small.1, inner_spots cols small.2)))
@@ -85,7 +85,7 @@ inner_mapping errors small = (inner_word (codes "error") refl, tt)
 
 device_same : (s t : Spot) → SmallSpot s → SmallSpot t → device_field s ≡ device_field t → (s.major ≡ t.major) × (s.minor ≡ t.minor)
 device_same s t ss st e =
-    let below : (n : ℕ) → n < 2 ^ 64 → All (λ b. b < 58) (decimal n) = λ n small. All-weaker Digit (λ b. b < 58) (λ b h. h.1) (decimal n) (digits_of n small) in
+    let below : (n : ℕ) → n < 2 ^ 64 → AllByRecursion (λ b. b < 58) (decimal n) = λ n small. All-weaker Digit (λ b. b < 58) (λ b h. h.1) (decimal n) (digits_of n small) in
     let parts = cut (λ b. b < 58) (decimal s.major) (decimal t.major) (58 ∷ decimal s.minor) (58 ∷ decimal t.minor) (below s.major ss.0) (below t.major st.0) (λ h. omega arith) (λ h. omega arith) e in
     let behind = parts.1 in
     (decimal_injective s.major t.major ss.0 st.0 parts.0, decimal_injective s.minor t.minor ss.1 st.1 (cc))
@@ -96,7 +96,7 @@ spot_same s t ss st d e =
     let sector = decimal_injective s.sector t.sector ss.2 st.2 e in
     λ i. record { major = numbers.0 i; minor = numbers.1 i; sector = sector i }
 
-spots_same : (cols ds : List Spot) → All SmallSpot cols → All SmallSpot ds → flat_map spot_fields cols ≡ flat_map spot_fields ds → cols ≡ ds
+spots_same : (cols ds : List Spot) → AllByRecursion SmallSpot cols → AllByRecursion SmallSpot ds → flat_map spot_fields cols ≡ flat_map spot_fields ds → cols ≡ ds
 spots_same [] [] sc sd e = refl
 spots_same [] (t ∷ ds) sc sd e = let z : ◌≡◌ {A = ℕ} 0 1 = cc in absurd (omega arith)
 spots_same (s ∷ cols) [] sc sd e = let z : ◌≡◌ {A = ℕ} 0 1 = cc in absurd (omega arith)
@@ -158,7 +158,7 @@ line_cut (line a n m) (line b j p) x y sl sk e =
 line_some : (l : Line) (x : List ℕ) → spell l ++ x ≡ [] → ⊥
 line_some (line a n m) x e = omega (arith, simp length-append at (ap length e))
 
-pub text_same : (ls ks : List Line) → All SmallLine ls → All SmallLine ks → text_of ls ≡ text_of ks → ls ≡ ks
+pub text_same : (ls ks : List Line) → AllByRecursion SmallLine ls → AllByRecursion SmallLine ks → text_of ls ≡ text_of ks → ls ≡ ks
 text_same [] [] sl sk e = refl
 text_same [] (k ∷ ks) sl sk e = absurd (line_some k (text_of ks) (sym e))
 text_same (l ∷ ls) [] sl sk e = absurd (line_some l (text_of ls) e)

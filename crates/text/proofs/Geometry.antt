@@ -11,7 +11,7 @@ use Rattle.text.specs.declared.page.Page.{Page}
 use Rattle.text.specs.Pages.{content}
 use Rattle.text.specs.Spelling.{spell}
 use Rattle.text.specs.Lines.{Line, line, length_of, Mapping, striped, linear, further, stripe, nowhere}
-use Rattle.text.specs.Steps.{row_size, whole_rows, first_line, rows_line, chunk_line}
+use Rattle.text.specs.Steps.{whole_rows, first_line, rows_line, chunk_line}
 use Rattle.text.specs.Printing.{spot_of, column_spot, column_spots}
 use Rattle.text.specs.Walks.{Usable, Writes}
 

@@ -1,10 +1,9 @@
 -- The two passes of printing: counting bytes, and writing them.
-use Rattle.std.proofs.Common.{◌≡◌, ℕ, ◌+◌, ◌-◌, ◌^◌, ◌<◌, ◌≤◌, List, [], ◌∷◌, ◌++◌, length, take, drop, sym, refl, ap, ◌∙◌, subst, append_assoc, arith, length-append}
+use Rattle.std.proofs.Common.{◌≡◌, ℕ, ◌+◌, ◌-◌, ◌<◌, ◌≤◌, List, [], ◌∷◌, ◌++◌, length, take, drop, sym, refl, ap, ◌∙◌, subst, append_assoc, arith, length-append}
 use Rattle.std.proofs.lemmas.List.{drop_all, drop-drop, drop_at, take_at, length-take-le, append-nil}
 use Rattle.table.specs.declared.extent.Slot.{Slot}
 use Rattle.roster.specs.declared.entry.Entries.{Entries}
 use Rattle.roster.specs.declared.target.Target.{Target}
-use Rattle.roster.specs.Places.{next}
 use Rattle.text.specs.declared.page.Page.{Page}
 use Rattle.text.specs.declared.course.Walk.{Walk}
 use Rattle.text.specs.Pages.{content}

@@ -1,15 +1,15 @@
 -- Targets under a sound roster: they can be looked up, and their offsets do not wrap.
-use Rattle.std.proofs.Common.{◌≡◌, ℕ, ◌+◌, ◌*◌, ◌%◌, ◌^◌, ◌<◌, ◌≤◌, length, refl, ap, ◌∙◌, arith}
+use Rattle.std.proofs.Common.{◌≡◌, ℕ, ◌+◌, ◌*◌, ◌%◌, ◌^◌, ◌<◌, ◌≤◌, refl, ap, arith}
 use Rattle.std.proofs.lemmas.Nat.{mul-le}
 use Rattle.roster.specs.declared.entry.Entries.{Entries}
 use Rattle.roster.specs.declared.target.Target.{Target}
 use Rattle.roster.specs.declared.target.Target.TheVariants.{Zero, Error, Linear, Striped}
-use Rattle.roster.specs.Rosters.{device_at, set_at, column_at, span, size_of, Sound}
+use Rattle.roster.specs.Rosters.{set_at, span, size_of, Sound}
 use Rattle.roster.specs.Places.{place_of, Fair}
 use Rattle.roster.specs.Targets.{shift_target}
-use Rattle.text.specs.Lines.{lies, maps, further}
+use Rattle.text.specs.Lines.{lies, maps}
 use Rattle.text.specs.Walks.{Usable, Ready}
-use Rattle.text.specs.Printing.{spot_of, column_spots, whole_of, offset_of, outcome_of}
+use Rattle.text.specs.Printing.{spot_of, whole_of, offset_of, outcome_of}
 use Rattle.text.specs.Steps.{Proper, first_line}
 use Rattle.text.proofs.Geometry.{length_columns, stripe_is}
 

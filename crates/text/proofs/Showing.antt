@@ -1,7 +1,5 @@
 -- The lines of a volume tile it, and denote at every sector the place that it resolves to.
-use Rattle.std.proofs.Common.{◌≡◌, ℕ, ◌+◌, ◌-◌, ◌^◌, ◌<◌, ◌≤◌, List, [], ◌∷◌, ◌++◌, take, sym, refl, ap, ◌∙◌, arith}
-use Rattle.std.proofs.ByRecursion.{All-append}
-use Rattle.std.specs.List.{AllByRecursion as All}
+use Rattle.std.proofs.Common.{◌≡◌, ℕ, ◌-◌, ◌^◌, ◌<◌, ◌≤◌, List, [], ◌∷◌, take, sym, refl, ap, ◌∙◌, arith}
 use Rattle.table.specs.declared.extent.Head.{Head}
 use Rattle.table.specs.declared.extent.Slot.{Slot}
 use Rattle.table.specs.Extents.{value_at, value_from, at, Climbs, Covers}
@@ -12,10 +10,9 @@ use Rattle.roster.specs.declared.target.Target.TheVariants.{Zero}
 use Rattle.roster.specs.Rosters.{Sound}
 use Rattle.roster.specs.Places.{place_of, next, Fair, AllLawful, Volume}
 use Rattle.roster.specs.Targets.{shift_target}
-use Rattle.text.specs.Lines.{Outcome, maps, Tiles}
-use Rattle.text.specs.Spelling.{SmallLine}
+use Rattle.text.specs.Lines.{Outcome, Tiles}
 use Rattle.text.specs.Steps.{extent_lines}
-use Rattle.text.specs.Printing.{whole_of, offset_of, lines_from, lines_of, outcome_of, ShowsPlaces}
+use Rattle.text.specs.Printing.{whole_of, offset_of, lines_from, outcome_of, ShowsPlaces}
 use Rattle.text.specs.Walks.{Goes, Within}
 use Rattle.text.proofs.Rosters.{proper_shifted, maps_place}
 use Rattle.text.proofs.Stepping.{extent_tiles, tiles_then}

@@ -1,13 +1,13 @@
 -- Every number in the lines of an extent has 64 bits.
-use Rattle.std.proofs.Common.{◌≡◌, ℕ, zero, suc, ◌+◌, ◌-◌, ◌*◌, ◌/◌, ◌%◌, ◌^◌, ◌<◌, ◌≤◌, min, cond, eqb, List, [], ◌∷◌, map, length, get_or, mul_assoc, mul_comm, arith}
+use Rattle.std.proofs.Common.{ℕ, zero, suc, ◌+◌, ◌-◌, ◌*◌, ◌/◌, ◌%◌, ◌^◌, ◌<◌, ◌≤◌, eqb, List, length, get_or, mul_comm, arith}
 use lib.ListN.{length-map}
 use Rattle.std.proofs.lemmas.Nat.{div-add-mod', mod_below, mul-le}
 use Rattle.std.proofs.ByRecursion.{All-get_or, All-map, All-weaker}
 use Rattle.std.proofs.lemmas.Bool.{cond_both, eqb-false}
-use Rattle.std.specs.List.{AllByRecursion as All}
+use Rattle.std.specs.List.{AllByRecursion}
 use Rattle.text.specs.declared.spot.Spot.{Spot}
-use Rattle.text.specs.Lines.{Line, line, length_of, Mapping, linear, striped, zeroes, errors, further, stripe, nowhere}
-use Rattle.text.specs.Spelling.{SmallSpot, SmallMapping, SmallLine}
+use Rattle.text.specs.Lines.{length_of, Mapping, linear, striped, zeroes, errors, further, nowhere}
+use Rattle.text.specs.Spelling.{SmallSpot, SmallLine}
 use Rattle.text.specs.Steps.{row_size, whole_rows, rows_line, chunk_line, first_line, lines_by, extent_lines, Proper}
 use Rattle.text.proofs.Stepping.{first_plain}
 
@@ -17,7 +17,7 @@ Low s = (s.major < 2 ^ 60) × (s.minor < 2 ^ 60) × (s.sector < 2 ^ 60)
 
 abbrev pub Modest : Mapping → Type 0
 Modest (linear s) = Low s
-Modest (striped c cols) = (length cols < 2 ^ 60) × (c < 2 ^ 60) × All Low cols
+Modest (striped c cols) = (length cols < 2 ^ 60) × (c < 2 ^ 60) × AllByRecursion Low cols
 Modest zeroes = Unit {0}
 Modest errors = Unit {0}
 
@@ -64,11 +64,11 @@ small_first zeroes modest proper o at left few start size = (omega arith, omega 
 small_first errors modest proper o at left few start size = (omega arith, omega arith, tt)
 
 module _ (m : Mapping) (modest : Modest m) (proper : Proper m) where
-  small_by : (f o at left : ℕ) → o + left ≤ 2 ^ 60 → at + left ≤ 2 ^ 60 → All SmallLine (lines_by f m o at left)
+  small_by : (f o at left : ℕ) → o + left ≤ 2 ^ 60 → at + left ≤ 2 ^ 60 → AllByRecursion SmallLine (lines_by f m o at left)
   small_by zero o at left few start = tt
   small_by (suc f) o at left few start =
       let n = length_of (first_line m o at left) in
-      cond_both (eqb left 0) _ _ (All SmallLine) (λ t. tt)
+      cond_both (eqb left 0) _ _ (AllByRecursion SmallLine) (λ t. tt)
       (λ t.
       let some : 0 < left = omega (arith, eqb-false left 0 t) in
       let first = first_plain m o at left some proper in (
@@ -76,5 +76,5 @@ module _ (m : Mapping) (modest : Modest m) (proper : Proper m) where
         small_by f (o + n) (at + n) (left - n) (omega (arith, first.within)) (omega (arith, first.within)),
       ))
 
-  pub small_extent : (o at left : ℕ) → o + left ≤ 2 ^ 60 → at + left ≤ 2 ^ 60 → All SmallLine (extent_lines m o at left)
+  pub small_extent : (o at left : ℕ) → o + left ≤ 2 ^ 60 → at + left ≤ 2 ^ 60 → AllByRecursion SmallLine (extent_lines m o at left)
   small_extent o at left few start = small_by left o at left few start

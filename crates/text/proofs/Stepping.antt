@@ -1,11 +1,11 @@
 -- The lines of an extent, one step at a time: they tile it, and denote what it holds.
-use Rattle.std.proofs.Common.{◌≡◌, ℕ, zero, suc, ◌+◌, ◌-◌, ◌*◌, ◌/◌, ◌%◌, ◌<◌, ◌≤◌, min, Bool, true, false, cond, ◌&&◌, eqb, ltb, leb, List, [], ◌∷◌, ◌++◌, map, length, get_or, sym, refl, ap, ◌∙◌, ⊎_elim, le_refl, add_assoc, mul_assoc, add-mul, arith}
+use Rattle.std.proofs.Common.{◌≡◌, ℕ, zero, suc, ◌+◌, ◌-◌, ◌*◌, ◌/◌, ◌%◌, ◌<◌, ◌≤◌, true, eqb, leb, List, [], ◌∷◌, ◌++◌, map, length, sym, refl, ap, ◌∙◌, ⊎_elim, le_refl, add_assoc, mul_assoc, add-mul, arith}
 use lib.ListN.{length-map}
 use Rattle.std.proofs.lemmas.List.{get_or-map}
-use Rattle.std.proofs.lemmas.Nat.{div-mul-add, mod-mul-add, div_below, mod_below, le-div, mul-le, mul-lt, div-add-mod'}
+use Rattle.std.proofs.lemmas.Nat.{div-mul-add, mod-mul-add, mod_below, le-div, mul-le, mul-lt, div-add-mod'}
 use Rattle.std.proofs.lemmas.Bool.{cond-true, cond-false, cond_both, and_parts, eqb-true, leb-true, ne_eqb, eqb-false, eq-eqb, cases_Bool, cases_lt}
 use Rattle.text.specs.declared.spot.Spot.{Spot}
-use Rattle.text.specs.Lines.{Line, line, length_of, start_of, Mapping, linear, striped, zeroes, errors, Outcome, lies, maps, denotes, Tiles, further, stripe, nowhere}
+use Rattle.text.specs.Lines.{Line, length_of, start_of, Mapping, linear, striped, zeroes, errors, Outcome, lies, maps, denotes, Tiles, further, stripe, nowhere}
 use Rattle.text.specs.Steps.{row_size, whole_rows, rows_line, chunk_line, first_line, lines_by, extent_lines, Proper}
 
 -- numbers of the form a * c + b with b below c

@@ -1,13 +1,13 @@
 -- Prints tell places: equal texts have equal lines, and equal lines denote equal places; equal places come from equal slots.
-use Rattle.std.proofs.Common.{◌≡◌, ℕ, ◌+◌, ◌-◌, ◌%◌, ◌^◌, ◌<◌, ◌≤◌, true, eqb, ◌⊎◌, List, [], ◌∷◌, ◌++◌, length, get_or, take, sym, refl, ap, ◌∙◌, subst, inl, inr, arith}
+use Rattle.std.proofs.Common.{◌≡◌, ℕ, ◌-◌, ◌%◌, ◌^◌, ◌<◌, ◌≤◌, true, eqb, List, [], ◌∷◌, ◌++◌, take, sym, refl, ap, ◌∙◌, inl, inr, arith}
 use Rattle.std.proofs.lemmas.Nat.{mod_below}
 use Rattle.std.proofs.lemmas.List.FromFn.{get_or-map-range_with_len}
 use Rattle.std.proofs.ByRecursion.{All-append, All-from_get_or}
 use Rattle.std.proofs.lemmas.Bool.{and_parts, eqb-true, cases_lt, cases_order}
-use Rattle.std.specs.List.{AllByRecursion as All}
+use Rattle.std.specs.List.{AllByRecursion}
 use Rattle.table.specs.declared.extent.Head.{Head}
 use Rattle.table.specs.declared.extent.Slot.{Slot}
-use Rattle.table.specs.Extents.{value_at, value_from, at, Covers, Distinct}
+use Rattle.table.specs.Extents.{value_from, at, Covers}
 use Rattle.table.specs.Laws.{SameSlots}
 use Rattle.table.proofs.Alike.{from_before, from_after}
 use Rattle.table.proofs.Unique.{equal_maps}
@@ -16,11 +16,11 @@ use Rattle.roster.specs.declared.place.Place.{Place}
 use Rattle.roster.specs.declared.place.Place.TheVariants.{Zero as zero_place, Error as error_place, At}
 use Rattle.roster.specs.declared.target.Target.{Target}
 use Rattle.roster.specs.declared.target.Target.TheVariants.{Zero, Error, Linear, Striped}
-use Rattle.roster.specs.Rosters.{device_at, set_at, column_at, Sound}
+use Rattle.roster.specs.Rosters.{device_at, set_at, Sound}
 use Rattle.roster.specs.Places.{place_of, column_of, next, Fair, Volume}
 use Rattle.roster.specs.Targets.{shift_target, same_target}
 use Rattle.roster.proofs.Tells.{places_tell}
-use Rattle.text.specs.Lines.{lies, nowhere}
+use Rattle.text.specs.Lines.{nowhere}
 use Rattle.text.specs.Spelling.{text_of, SmallLine}
 use Rattle.text.specs.Steps.{extent_lines}
 use Rattle.text.specs.Printing.{spot_of, column_spot, column_spots, whole_of, offset_of, lines_from, lines_of, printed, place_at, outcome_of, SamePlaces, PrintsTellPlaces}
@@ -28,7 +28,7 @@ use Rattle.text.specs.Walks.{Goes}
 use Rattle.text.proofs.Decoding.{text_same}
 use Rattle.text.proofs.Geometry.{length_columns}
 use Rattle.text.proofs.Kind.{target_laws}
-use Rattle.text.proofs.Rosters.{usable_set, size_small, proper_shifted}
+use Rattle.text.proofs.Rosters.{size_small, proper_shifted}
 use Rattle.text.proofs.Showing.{goes_volume, volume_shows}
 use Rattle.text.proofs.Small.{Low, Modest, small_extent}
 use Rattle.text.proofs.Stepping.{tiles_same}
@@ -130,7 +130,7 @@ module _ (E : Entries) (sound : Sound E) where
       let sector : s ≡ t = ap (λ x. x.sector) spots in
       λ i. At (device i) (sector i)
 
-  low_columns : (n : ℕ) → n < E.set_count → All Low (column_spots E (set_at E n))
+  low_columns : (n : ℕ) → n < E.set_count → AllByRecursion Low (column_spots E (set_at E n))
   low_columns n listed =
       All-from_get_or Low (column_spots E (set_at E n)) nowhere
       (λ j less.
@@ -155,7 +155,7 @@ module _ (E : Entries) (sound : Sound E) where
   offset_low (Linear d s) fair = omega (arith, fair.2, (sound.devices d fair.0).3)
   offset_low (Striped n o) fair = omega (arith, fair.2, size_small E sound n fair.1)
 
-  small_list : (xs : List (Slot Target)) (n : ℕ) → Goes E xs n → All SmallLine (lines_from E xs n)
+  small_list : (xs : List (Slot Target)) (n : ℕ) → Goes E xs n → AllByRecursion SmallLine (lines_from E xs n)
   small_list [] n goes = tt
   small_list (s ∷ ss) n goes =
       let fair = goes.2 0 (omega (arith, goes.0)) in

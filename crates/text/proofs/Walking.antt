@@ -1,5 +1,5 @@
 -- Walking over the lines of a volume: each step takes the first of the lines that are left.
-use Rattle.std.proofs.Common.{◌≡◌, ℕ, ◌+◌, ◌-◌, ◌^◌, ◌<◌, ◌≤◌, List, [], ◌∷◌, ◌++◌, length, get_or, drop, sym, refl, ap, ◌∙◌, subst, append_assoc, arith}
+use Rattle.std.proofs.Common.{◌≡◌, ℕ, ◌+◌, ◌-◌, ◌^◌, ◌<◌, ◌≤◌, List, [], ◌∷◌, ◌++◌, length, get_or, drop, sym, refl, ap, ◌∙◌, subst, arith}
 use Rattle.std.proofs.lemmas.List.{drop_more, drop_all}
 use Rattle.table.specs.declared.extent.Slot.{Slot}
 use Rattle.table.specs.Extents.{value_at}
@@ -7,14 +7,14 @@ use Rattle.roster.specs.declared.entry.Entries.{Entries}
 use Rattle.roster.specs.declared.target.Target.{Target}
 use Rattle.roster.specs.declared.target.Target.TheVariants.{Zero}
 use Rattle.roster.specs.Rosters.{Sound}
-use Rattle.roster.specs.Places.{next, Fair, Lawful}
+use Rattle.roster.specs.Places.{next, Fair}
 use Rattle.roster.specs.Targets.{shift_target}
 use Rattle.text.specs.declared.page.Page.{Page}
 use Rattle.text.specs.declared.course.Walk.{Walk}
-use Rattle.text.specs.Lines.{Line, length_of, Mapping}
+use Rattle.text.specs.Lines.{Line, length_of}
 use Rattle.text.specs.Pages.{content}
 use Rattle.text.specs.Spelling.{spell, text_of}
-use Rattle.text.specs.Steps.{Proper, first_line, extent_lines}
+use Rattle.text.specs.Steps.{first_line, extent_lines}
 use Rattle.text.specs.Printing.{whole_of, offset_of, lines_from}
 use Rattle.text.specs.Walks.{Ready, Writes, lines_on, Within, Goes, text_from, Moves}
 use Rattle.text.proofs.Rosters.{ready_fair, proper_shifted, first_on}

@@ -1,6 +1,6 @@
 -- How lines are spelled: the bytes of a text.
 use Rattle.std.specs.Prelude.{ℕ, ◌^◌, ◌<◌, List, [], ◌∷◌, ◌++◌, length, codes, decimal}
-use Rattle.std.specs.List.{flat_map, AllByRecursion as All}
+use Rattle.std.specs.List.{flat_map, AllByRecursion}
 use Rattle.text.specs.declared.spot.Spot.{Spot}
 use Rattle.text.specs.Lines.{Line, line, Mapping, linear, striped, zeroes, errors}
 
@@ -43,7 +43,7 @@ SmallSpot s = (s.major < 2 ^ 64) × (s.minor < 2 ^ 64) × (s.sector < 2 ^ 64)
 -- every number of a mapping has 64 bits
 abbrev pub SmallMapping : Mapping → Type 0
 SmallMapping (linear s) = SmallSpot s
-SmallMapping (striped c cols) = (length cols < 2 ^ 64) × (c < 2 ^ 64) × All SmallSpot cols
+SmallMapping (striped c cols) = (length cols < 2 ^ 64) × (c < 2 ^ 64) × AllByRecursion SmallSpot cols
 SmallMapping zeroes = Unit {0}
 SmallMapping errors = Unit {0}
 

@@ -1,5 +1,4 @@
-use Rattle.std.proofs.Common.{◌≡◌, length, ap, arith}
-use Rattle.roster.specs.declared.entry.SetEntry.{SetEntry}
+use Rattle.std.proofs.Common.{length, ap, arith}
 use Rattle.roster.proofs.Counts.{filled_more, filled_all}
 use Rattle.roster.proofs.addition.entry_of.Goals as goal
 

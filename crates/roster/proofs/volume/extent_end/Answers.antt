@@ -1,4 +1,4 @@
-use Rattle.std.proofs.Common.{sym, ap, arith}
+use Rattle.std.proofs.Common.{sym, ap}
 use Rattle.roster.specs.declared.target.Target.TheVariants.{Zero}
 use Rattle.roster.specs.Places.{next}
 use Rattle.roster.proofs.Volumes.{counted_more, counted_all}

@@ -1,4 +1,4 @@
-use Rattle.std.proofs.Common.{◌≡◌, ◌-◌, length}
+use Rattle.std.proofs.Common.{◌-◌}
 use Rattle.text.proofs.Passes.{Counted}
 use Rattle.text.proofs.print.measure.Given as goal
 

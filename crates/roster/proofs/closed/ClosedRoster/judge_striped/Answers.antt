@@ -1,4 +1,4 @@
-use Rattle.std.proofs.Common.{◌≡◌, ℕ, ap, arith}
+use Rattle.std.proofs.Common.{◌≡◌, ap, arith}
 use Rattle.roster.specs.Rosters.{set_at, size_of}
 use Rattle.roster.proofs.Kept.{set_size}
 use Rattle.roster.proofs.Runs.{begins_past, ends_past}

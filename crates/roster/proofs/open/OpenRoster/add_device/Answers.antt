@@ -4,8 +4,8 @@ use Rattle.roster.proofs.Added.{device_added}
 use Rattle.roster.proofs.Kept.{open_sound, owed}
 use Rattle.roster.proofs.open.OpenRoster.add_device.Goals as goal
 
-pub invariant-of-self : goal.invariant-of-self
-invariant-of-self c =
+pub invariant_of-self : goal.invariant_of-self
+invariant_of-self c =
     let device : Device = record { major = c.args.major; minor = c.args.minor; size = c.args.size } in
     owed (with_device c.args.self.now.entries device)
-    (device_added c.args.self.now.entries device (open_sound c.args.self.now) c.in-ok-judge-device.ensures)
+    (device_added c.args.self.now.entries device (open_sound c.args.self.now) c.in_ok-judge_device.ensures)

@@ -1,5 +1,5 @@
 use Rattle.std.proofs.Common.{◌∙◌, append_assoc, arith}
-use Rattle.text.proofs.Adding.{adds_then, adds_as}
+use Rattle.text.proofs.Adding.{adds_then}
 use Rattle.text.proofs.page.Page.begin.Goals as goal
 
 pub returns : goal.returns
