@@ -1,16 +1,17 @@
 #!/bin/sh
 # Tries the misuses of open and closed rosters that must not compile, each in a copy of the repository.
-# Run it after 'rt check', from the repository's root. It ends with status 0 if every misuse is refused by the compiler.
+# Run it from the repository's root. It ends with status 0 if every misuse is refused by the compiler.
 set -eu
 bad=0
 try() {
     name=$1 old=$2 new=$3 want=$4
     copy=$(mktemp -d)
-    cp -R . "$copy/repository"
+    mkdir "$copy/repository"
+    tar --exclude=out --exclude=.git -cf - . | tar -C "$copy/repository" -xf -
     file="$copy/repository/crates/volume_compiler/src/shelf.rt"
     OLD=$old NEW=$new awk '{ i = index($0, ENVIRON["OLD"]); if (i) print ENVIRON["NEW"]; else print }' "$file" > "$copy/edited"
     cp "$copy/edited" "$file"
-    if (cd "$copy/repository" && rt dev volume_compiler) > "$copy/log" 2>&1; then
+    if (cd "$copy/repository/crates/volume_compiler" && rt try) > "$copy/log" 2>&1; then
         echo "$name: COMPILED"
         bad=1
     elif grep -q -- "$want" "$copy/log"; then
@@ -22,7 +23,7 @@ try() {
     fi
     rm -rf "$copy"
 }
-closed='    println!(rt, "the roster is closed")?;'
+closed='    println!(rt; "the roster is closed")?;'
 empty='table::extent::Head { count: 0, length: 0 }'
 try 'adding to a closed roster' '    Ok(open.close())' '    let mut shut = open.close(); shut.add_device(8, 32, 4096)?; Ok(shut)' 'no method named `add_device`'
 try 'resolving under an open roster' "$closed" '    open.resolve(roster::target::Target::Zero)?;' 'no method named `resolve`'

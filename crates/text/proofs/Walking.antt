@@ -125,8 +125,8 @@ module _ (E : Entries) (sound : Sound E) (xs : List (Slot Target)) (n : ℕ) (w 
     wrote : Writes (whole_of E (value_at shift_target (slot_at xs w.slot) w.at)) (offset_of (value_at shift_target (slot_at xs w.slot) w.at)) w.at (next (drop (w.slot + 1) xs) n - w.at) p r
     wrote = rw (end, is) at writes
 
-    start_of : (v : Walk) (q : Page) → text_from E xs n w ≡ content q ++ text_from E xs n v → w.at < v.at → v.slot ≤ length xs → Goes E (drop v.slot xs) n → Within (drop v.slot xs) n v.at → Moves E xs n w v q
-    start_of v q text ahead room g i =
+    moves_from : (v : Walk) (q : Page) → text_from E xs n w ≡ content q ++ text_from E xs n v → w.at < v.at → v.slot ≤ length xs → Goes E (drop v.slot xs) n → Within (drop v.slot xs) n v.at → Moves E xs n w v q
+    moves_from v q text ahead room g i =
         record { text = text; ahead = ahead; start = omega (arith, within_here, goes_here.1); room = room; goes = g; within = i }
 
     pub moves_on : r < e - w.at → Moves E xs n w (record { slot = w.slot; at = w.at + r }) p
@@ -136,7 +136,7 @@ module _ (E : Entries) (sound : Sound E) (xs : List (Slot Target)) (n : ℕ) (w 
         let v : Walk = record { slot = w.slot; at = w.at + r } in
         let on = step_on E sound s ss n w.at goes_here within_here p r wrote (omega arith) in
         let some = step_some E sound s ss n w.at goes_here within_here p r wrote in
-        start_of v p (rw split on) (omega arith) (omega arith) goes (rw split (omega (arith, within_here), omega arith))
+        moves_from v p (rw split on) (omega arith) (omega arith) goes (rw split (omega (arith, within_here), omega arith))
 
     pub moves_end : e - w.at ≤ r → Moves E xs n w (record { slot = w.slot + 1; at = e }) p
     moves_end all =
@@ -144,5 +144,5 @@ module _ (E : Entries) (sound : Sound E) (xs : List (Slot Target)) (n : ℕ) (w 
         let ss = drop (w.slot + 1) xs in
         let v : Walk = record { slot = w.slot + 1; at = e } in
         let on = step_end E sound s ss n w.at goes_here within_here p r wrote (omega arith) in
-        start_of v p (rw (split, end) on) (omega (arith, within_here)) (omega arith) goes_here.3
+        moves_from v p (rw (split, end) on) (omega (arith, within_here)) (omega arith) goes_here.3
         (rw end (within_start E ss n goes_here.3))
