@@ -24,9 +24,9 @@ try() {
     rm -rf "$copy"
 }
 closed='    println!(rt; "the roster is closed")?;'
-empty='table::extent::Head { count: 0, length: 0 }'
-try 'adding to a closed roster' '    Ok(open.close())' '    let mut shut = open.close(); shut.add_device(8, 32, 4096)?; Ok(shut)' 'no method named `add_device`'
-try 'resolving under an open roster' "$closed" '    open.resolve(roster::target::Target::Zero)?;' 'no method named `resolve`'
-try 'editing under an open roster' "$closed" "    open.cut(&mut $empty, &[], 0)?;" 'no method named `cut`'
-try 'printing under an open roster' "$closed" "    let _ = text::print::print(&open, &$empty, &[], &mut [0u8; 4]);" 'mismatched-types'
+empty='table::table::View { head: table::extent::Head::default(), slots: &[] }'
+try 'adding to a closed roster' '    Ok(open.close())' '    let mut shut = open.close(); shut.add_device(8, 32, 4096)?; Ok(shut)' 'the method `add_device` takes'
+try 'resolving under an open roster' "$closed" '    open.resolve(roster::target::Target::Zero)?;' 'the method `resolve` takes'
+try 'editing under an open roster' "$closed" "    open.cut(&mut $empty, 0)?;" 'the method `cut` takes'
+try 'printing under an open roster' "$closed" "    let _ = text::print::print(&open, &$empty, &mut [0u8; 4]);" 'mismatched-types'
 exit $bad

@@ -1,97 +1,53 @@
--- What an addition that is judged good leaves is a sound roster.
-use Rattle.std.proofs.Common.{◌≡◌, ℕ, ◌+◌, ◌*◌, ◌<◌, ◌≤◌, Bool, true, false, ◌≢◌, ◌⊎◌, List, length, get_or, set, Ok, MatchBool, sym, refl, ap, ◌∙◌, subst, inl, inr, ⊎_elim, arith}
-use Rattle.std.proofs.lemmas.Nat.{mul-lt}
-use Rattle.std.proofs.lemmas.List.{length-set, get_or-set_same, get_or-set_other, get_or_append_left}
-use Rattle.std.proofs.lemmas.Bool.{cases_lt, false≢true}
-use Rattle.roster.specs.declared.entry.Device.{Device}
+-- What the sets of a roster, and one that is added, were found to be.
+use Rattle.std.proofs.Common.{◌≡◌, ℕ, ◌-◌, ◌<◌, ◌≤◌, ◌≢◌, ◌⊎◌, List, [], ◌∷◌, All, drop, replicate, length, length-append, get_or, ◌↔◌, sym, ap, ◌∙◌, subst, inl, inr, ⊎_elim, arith}
+use Rattle.std.proofs.lemmas.List.{get_or_append_left, drop-replicate}
+use Rattle.std.proofs.lemmas.Bool.{cases_lt}
+use Rattle.std.proofs.lemmas.List.Elements.{All-from_get_or}
+use Rattle.std.proofs.Math.Seq.{get_or-append_seam}
 use Rattle.roster.specs.declared.entry.Column.{Column}
 use Rattle.roster.specs.declared.entry.SetEntry.{SetEntry}
 use Rattle.roster.specs.declared.entry.Entries.{Entries}
-use Rattle.roster.specs.Rosters.{device_at, set_at, column_at, span, SoundDevice, Twins, Shaped, Sound, SoundDevices, NoTwins, ShapedSets, HousedSets, NoClash, Share, area_of}
+use Rattle.roster.specs.Rosters.{no_device, no_set, no_column, device_at, set_at, SoundDevice, Sound, SoundDevices, NoClash, Share, area_of}
 use Rattle.roster.proofs.Areas.{share_back}
-use Rattle.roster.specs.Additions.{with_device, DeviceJudged, entry_of, with_set, NamesListed, Housed, Apart, Fitting, SetJudged}
+use Rattle.roster.specs.Additions.{with_set, Apart, OwnApart}
 
-span_some : (c r : ℕ) → 0 < c → 1 ≤ r → 0 < c * r
-span_some c r h l = omega (arith, mul-lt 0 0 c r h l)
+-- what the sets of a slice were found to be, those of the list that it shows are
+pub all_listed : (P : SetEntry → Type 0) {xs ys : List SetEntry} {n : ℕ} → xs ≡ ys → length xs ≤ n → ((k : ℕ) → k < n → P (get_or xs k no_set)) → All P ys
+all_listed P {xs} shows all told =
+    subst (All P) shows (All-from_get_or P xs no_set (λ k h. told k (omega (arith, all, h))))
 
--- what holds of every place below n, and of n, in a list that is set at n
-set_more : {X : Type 0} (P : ℕ → X → Type 0) (xs : List X) (n : ℕ) (x d : X) → n < length xs → ((k : ℕ) → k < n → P k (get_or xs k d)) → P n x → (k : ℕ) → k < n + 1 → P k (get_or (set xs n x) k d)
-set_more P xs n x d h below here k l =
-    ⊎_elim
-    (λ lt. let ne : k ≢ n = omega arith in rw (get_or-set_other xs n k x d ne) (below k lt))
-    (λ ge. let e : n ≡ k = omega arith in subst (λ m. P m (get_or (set xs n x) m d)) e (rw (get_or-set_same xs n x d h) here))
-    (cases_lt k n)
+-- behind n columns that were given stand columns that do not count
+pub padding : (n : ℕ) (c : Column) → c ≡ no_column → drop n (c ∷ c ∷ c ∷ c ∷ c ∷ c ∷ c ∷ c ∷ []) ≡ replicate (8 - n) no_column
+padding n c p = rw p (drop-replicate n 8 no_column)
 
-module _ (E : Entries) (d : Device) (s : Sound E) (good : DeviceJudged E d (Ok tt)) where
-  old_device : (k : ℕ) → k < E.device_count → device_at (with_device E d) k ≡ device_at E k
-  old_device k h = let ne : k ≢ E.device_count = omega arith in get_or-set_other E.devices E.device_count k d _ ne
+pub device_sound : (E : Entries) → SoundDevices E → (d : ℕ) → d < length E.devices.items → SoundDevice (device_at E d)
+device_sound E sound d h = sound d no_device h
 
-  devices_more : SoundDevices (with_device E d)
-  devices_more = set_more (λ _ x. SoundDevice x) E.devices E.device_count d _ (omega (arith, good.0, s.room.0)) s.devices good.1.0
+module _ (E : Entries) (e : SetEntry) (s : Sound E) where
+  new_set : set_at (with_set E e) (length E.sets.items) ≡ e
+  new_set = get_or-append_seam E.sets.items e [] _
 
-  twins_more : NoTwins (with_device E d)
-  twins_more i k h =
-      set_more (λ k x. i < k → Twins (device_at (with_device E d) i) x → ⊥) E.devices E.device_count d _ (omega (arith, good.0, s.room.0))
-      (λ k l lt. rw (old_device i (omega arith)) (s.twins i k (lt, l)))
-      (λ lt. rw (old_device i lt) (good.1.1 i lt))
-      k h.1 h.0
-
-  housed_more : HousedSets (with_device E d)
-  housed_more n j l =
-      let h = s.housed n j l in
-      (omega (arith, h.0), rw (old_device (column_at (set_at E n) j).device h.0) h.1)
-
-  pub device_added : Sound (with_device E d)
-  device_added =
-      record {
-        room = (length-set E.devices E.device_count d ∙ s.room.0, s.room.1);
-        few_devices = omega (arith, good.0);
-        few_sets = s.few_sets;
-        devices = devices_more;
-        twins = twins_more;
-        shaped = s.shaped;
-        housed = housed_more;
-        apart = λ c. s.apart (record { n = c.n; j = c.j; m = c.m; k = c.k; one = c.one; other = c.other; two = c.two; share = c.share });
-      }
-
--- a column of a set is the one that was given
-column_given : (chunk rows : ℕ) (cs : List Column) (j : ℕ) → j < length cs → column_at (entry_of chunk rows cs) j ≡ get_or cs j (record { device = 0; base = 0 })
-column_given chunk rows cs j h = get_or_append_left cs _ _ j h
-
--- areas inside devices can be written down
-pub fitting : (E : Entries) (e : SetEntry) → SoundDevices E → Shaped e → ((j : ℕ) → j < e.width → (column_at e j).device < E.device_count) → Housed E e → Fitting e
-fitting E e sound shaped listed housed =
-    (shaped.1, span_some e.chunk e.rows (omega (arith, shaped.2)) shaped.4, λ j h. omega (arith, housed j h, (sound (column_at e j).device (listed j h)).3))
-
-pub set_fitting : (E : Entries) → Sound E → (n : ℕ) → n < E.set_count → Fitting (set_at E n)
-set_fitting E s n h =
-    fitting E (set_at E n) s.devices (s.shaped n h) (λ j l. (s.housed n j (h, l)).0) (λ j l. (s.housed n j (h, l)).1)
-
-module _ (E : Entries) (chunk rows : ℕ) (cs : List Column) where
-  -- the columns of the entry name listed devices if the columns given do
-  pub columns_listed : NamesListed E cs → (j : ℕ) → j < length cs → (column_at (entry_of chunk rows cs) j).device < E.device_count
-  columns_listed l j h = rw (column_given chunk rows cs j h) (l j h)
-
-  pub entry_listed : (e : SetEntry) → e ≡ entry_of chunk rows cs → NamesListed E cs → (j : ℕ) → j < e.width → (column_at e j).device < E.device_count
-  entry_listed e p l = subst (λ x. (j : ℕ) → j < x.width → (column_at x j).device < E.device_count) (sym p) (columns_listed l)
-
-module _ (E : Entries) (e : SetEntry) (s : Sound E) (few : E.set_count < 16) where
-  new_set : set_at (with_set E e) E.set_count ≡ e
-  new_set = get_or-set_same E.sets E.set_count e _ (omega (arith, s.room.1))
-
-  old_set : (n : ℕ) → n < E.set_count → set_at (with_set E e) n ≡ set_at E n
-  old_set n h = let ne : n ≢ E.set_count = omega arith in get_or-set_other E.sets E.set_count n e _ ne
+  old_set : (n : ℕ) → n < length E.sets.items → set_at (with_set E e) n ≡ set_at E n
+  old_set n h = get_or_append_left E.sets.items (e ∷ []) _ n h
 
   -- each set listed then is an old one or the new one
-  sorted_set : (n : ℕ) → n < E.set_count + 1 → ((n < E.set_count) × (set_at (with_set E e) n ≡ set_at E n)) ⊎ ((n ≡ E.set_count) × (set_at (with_set E e) n ≡ e))
+  sorted_set : (n : ℕ) → n < length (with_set E e).sets.items → ((n < length E.sets.items) × (set_at (with_set E e) n ≡ set_at E n)) ⊎ ((n ≡ length E.sets.items) × (set_at (with_set E e) n ≡ e))
   sorted_set n h =
       ⊎_elim
       (λ l. inl (l, old_set n l))
-      (λ g. let q : n ≡ E.set_count = omega arith in inr (q, ap (λ m. set_at (with_set E e) m) q ∙ new_set))
-      (cases_lt n E.set_count)
+      (λ g. let q : n ≡ length E.sets.items = omega (arith, length-append E.sets.items (e ∷ []), h) in inr (q, ap (λ m. set_at (with_set E e) m) q ∙ new_set))
+      (cases_lt n (length E.sets.items))
+
+  -- no two columns of a set whose areas are apart share a sector
+  own_apart : OwnApart e → (j k : ℕ) → j < e.width → k < e.width → j ≢ k → Share (area_of e j) (area_of e k) → ⊥
+  own_apart own j k l h differ share =
+      ⊎_elim
+      (λ lt. own k h j lt share)
+      (λ ge. own j l k (omega arith) (share_back _ _ share))
+      (cases_lt j k)
 
   -- a set that no listed one meets, and that does not meet itself, clashes with none
-  pub apart_all : ((n : ℕ) → n < E.set_count → Apart false (set_at E n) e) → Apart true e e → NoClash (with_set E e)
+  pub apart_all : All (λ x. Apart x e) E.sets.items → OwnApart e → NoClash (with_set E e)
   apart_all others own c =
       let one : (x : SetEntry) → set_at (with_set E e) c.n ≡ x → c.j < x.width = λ x p. subst (λ y. c.j < y.width) p c.one.1 in
       let other : (x : SetEntry) → set_at (with_set E e) c.m ≡ x → c.k < x.width = λ x p. subst (λ y. c.k < y.width) p c.other.1 in
@@ -99,70 +55,44 @@ module _ (E : Entries) (e : SetEntry) (s : Sound E) (few : E.set_count < 16) whe
       ⊎_elim
       (λ n_old. ⊎_elim
       (λ m_old. s.apart (record { n = c.n; j = c.j; m = c.m; k = c.k; one = (n_old.0, one _ n_old.1); other = (m_old.0, other _ m_old.1); two = c.two; share = both _ _ n_old.1 m_old.1 }))
-      (λ m_new. others c.n n_old.0 c.j c.k (one _ n_old.1, other _ m_new.1) (λ f _. false≢true f) (both _ _ n_old.1 m_new.1))
+      (λ m_new. others c.n _ n_old.0 c.j (one _ n_old.1) c.k (other _ m_new.1) (share_back _ _ (both _ _ n_old.1 m_new.1)))
       (sorted_set c.m c.other.0))
       (λ n_new. ⊎_elim
-      (λ m_old. others c.m m_old.0 c.k c.j (other _ m_old.1, one _ n_new.1) (λ f _. false≢true f) (share_back _ _ (both _ _ n_new.1 m_old.1)))
-      (λ m_new. own c.j c.k (one _ n_new.1, other _ m_new.1) (λ _ q. c.two (n_new.0 ∙ sym m_new.0, q)) (both _ _ n_new.1 m_new.1))
+      (λ m_old. others c.m _ m_old.0 c.k (other _ m_old.1) c.j (one _ n_new.1) (both _ _ n_new.1 m_old.1))
+      (λ m_new. own_apart own c.j c.k (one _ n_new.1) (other _ m_new.1) (λ q. c.two (n_new.0 ∙ sym m_new.0, q)) (both _ _ n_new.1 m_new.1))
       (sorted_set c.m c.other.0))
       (sorted_set c.n c.one.0)
 
   -- an area that meets one of the new set is a clash
-  pub apart_others : NoClash (with_set E e) → (n : ℕ) → n < E.set_count → Apart false (set_at E n) e
-  apart_others clean n h j k l differ share =
+  apart_other : NoClash (with_set E e) → (n : ℕ) → n < length E.sets.items → Apart (set_at E n) e
+  apart_other clean n h j l k m share =
       clean (record {
         n = n;
         j = j;
-        m = E.set_count;
+        m = length E.sets.items;
         k = k;
-        one = (omega arith, rw (old_set n h) l.0);
-        other = (omega arith, rw new_set l.1);
-        two = λ e. omega (arith, e.0);
-        share = rw (old_set n h, new_set) share;
+        one = (omega (arith, length-append E.sets.items (e ∷ []), h), rw (old_set n h) l);
+        other = (omega (arith, length-append E.sets.items (e ∷ [])), rw new_set m);
+        two = λ q. omega (arith, q.0, h);
+        share = rw (old_set n h, new_set) (share_back _ _ share);
       })
 
-  pub apart_own : NoClash (with_set E e) → Apart true e e
-  apart_own clean j k l differ share =
+  pub apart_others : NoClash (with_set E e) → All (λ x. Apart x e) E.sets.items
+  apart_others clean = All-from_get_or (λ x. Apart x e) E.sets.items no_set (apart_other clean)
+
+  pub apart_own : NoClash (with_set E e) → OwnApart e
+  apart_own clean k h j l share =
       clean (record {
-        n = E.set_count;
+        n = length E.sets.items;
         j = j;
-        m = E.set_count;
+        m = length E.sets.items;
         k = k;
-        one = (omega arith, rw new_set l.0);
-        other = (omega arith, rw new_set l.1);
-        two = λ e. differ refl e.1;
+        one = (omega (arith, length-append E.sets.items (e ∷ [])), rw new_set (omega arith));
+        other = (omega (arith, length-append E.sets.items (e ∷ [])), rw new_set h);
+        two = λ q. omega (arith, q.1, l);
         share = rw new_set share;
       })
 
-  pub apart_tested : ((n : ℕ) → n < E.set_count → Apart false (set_at E n) e) → (b : Bool) → MatchBool b (Apart true e e) (Apart true e e → ⊥) → MatchBool b (NoClash (with_set E e)) (NoClash (with_set E e) → ⊥)
-  apart_tested others true own = apart_all others own
-  apart_tested others false meets = λ clean. meets (apart_own clean)
-
-module _ (E : Entries) (chunk rows : ℕ) (cs : List Column) (s : Sound E) (good : SetJudged E chunk rows cs (Ok tt)) where
-  shaped_more : ShapedSets (with_set E (entry_of chunk rows cs))
-  shaped_more = set_more (λ _ x. Shaped x) E.sets E.set_count (entry_of chunk rows cs) _ (omega (arith, good.1, s.room.1)) s.shaped good.2.0
-
-  housed_sets_more : HousedSets (with_set E (entry_of chunk rows cs))
-  housed_sets_more n j l =
-      set_more
-      (λ _ x. (j : ℕ) → j < x.width → ((column_at x j).device < E.device_count) × ((column_at x j).base + span x ≤ (device_at E (column_at x j).device).size))
-      E.sets E.set_count (entry_of chunk rows cs) _ (omega (arith, good.1, s.room.1))
-      (λ k lt i h. s.housed k i (lt, h))
-      (λ i h. (columns_listed E chunk rows cs good.0 i h, good.2.1 i h))
-      n l.0 j l.1
-
-  pub set_added : Sound (with_set E (entry_of chunk rows cs))
-  set_added =
-      record {
-        room = (s.room.0, length-set E.sets E.set_count (entry_of chunk rows cs) ∙ s.room.1);
-        few_devices = s.few_devices;
-        few_sets = omega (arith, good.1);
-        devices = s.devices;
-        twins = s.twins;
-        shaped = shaped_more;
-        housed = housed_sets_more;
-        apart = good.3;
-      }
-
-  pub entry_added : (e : SetEntry) → e ≡ entry_of chunk rows cs → Sound (with_set E e)
-  entry_added e p = subst (λ x. Sound (with_set E x)) (sym p) set_added
+  -- so the test of listed sets and that within the new one tell whether there is a clash
+  pub apart_judged : (All (λ x. Apart x e) E.sets.items × OwnApart e) ↔ NoClash (with_set E e)
+  apart_judged = (λ h. apart_all h.0 h.1, λ clean. (apart_others clean, apart_own clean))

@@ -1,19 +1,20 @@
 -- From what the calls on tables promise to what the calls on volumes do.
-use Rattle.std.proofs.Common.{◌≡◌, ℕ, ◌<◌, List, Ok, Err, Result, ap, ◌∙◌, arith}
+use Rattle.std.proofs.Common.{ℕ, List, Ok, Err, Result, Some, ap, ◌∙◌, arith, rules}
 use Rattle.table.specs.declared.extent.Head.{Head}
 use Rattle.table.specs.declared.extent.Slot.{Slot}
 use Rattle.table.specs.declared.extent.Run.{Run}
 use Rattle.table.specs.Maps.{Map}
-use Rattle.table.specs.Calls.{map_of, Leaves, Appends, Assigns, Cuts, Overlays}
+use Rattle.table.specs.Checks.{check, end}
+use Rattle.table.specs.Calls.{map_of, Leaves, Appends, Assigns, Cuts, Looks, Overlays}
 use Rattle.roster.specs.declared.entry.Entries.{Entries}
 use Rattle.roster.specs.declared.place.Place.{Place}
 use Rattle.roster.specs.declared.refusal.RosterRefusal.{RosterRefusal}
-use Rattle.roster.specs.declared.refusal.RosterRefusal.TheVariants.{Table, NoDevice, NoSet, LeavesTarget, TouchesArea, RosterFull, BadDevice, BadSet, SharedArea}
 use Rattle.roster.specs.declared.target.Target.{Target}
 use Rattle.roster.specs.declared.target.Target.TheVariants.{Zero}
 use Rattle.roster.specs.Targets.{shift_target, same_target, clear_target}
-use Rattle.roster.specs.Places.{place_of, Fair, Lawful, Volume}
-use Rattle.roster.specs.Judgements.{Resolves}
+use Rattle.roster.specs.Places.{place_of, HasDevice, HasSet, Below, Fair, Volume}
+use Rattle.roster.specs.Refusals.{number_of}
+use Rattle.roster.specs.Judgements.{Resolves, TargetJudged, VolumeJudged}
 use Rattle.roster.specs.Volumes.{Makes, AppendsVolume, AssignsVolume, CutsVolume, OverlaysVolume, Locates}
 use Rattle.roster.proofs.Sectors.{GoodMap, volume_good, leaves_volume, good_append, good_assign, good_cut, good_over}
 
@@ -25,43 +26,29 @@ module _ (E : Entries) where
     old : GoodMap E (map_of shift_target h xs) h.length
     old = volume_good E h xs v
 
-    pub append_done : (l : ℕ) (t : Target) → Appends shift_target same_target h xs l t h' xs' (Ok tt) → Lawful E t l → AppendsVolume E h xs l t h' xs' (Ok tt)
-    append_done l t a lawful =
-        (made _ _ xs h' xs' a.0 (good_append E (map_of shift_target h xs) h.length old t l lawful), a.1, v, tt, a.4, lawful, tt)
+    pub append_done : (l : ℕ) (t : Target) → Appends shift_target same_target h xs l t h' xs' (Ok tt) → TargetJudged E t l (Ok tt) → AppendsVolume E h xs l t h' xs' (Ok tt)
+    append_done l t a judged =
+        (made _ _ xs h' xs' a.0 (good_append E (map_of shift_target h xs) h.length old t l judged.0), (a.1.0, (v, (a.1.1.1.0, (judged.1.0, (judged.1.1.0, (judged.1.1.1.0, (judged.1.1.1.1.0, a.1.1.1.1))))))))
 
-    pub assign_done : (run : Run) (t : Target) → Assigns shift_target same_target h xs run t h' xs' (Ok tt) → Lawful E t run.length → AssignsVolume E h xs run t h' xs' (Ok tt)
-    assign_done run t a lawful =
-        (made _ _ xs h' xs' a.0 (good_assign E (map_of shift_target h xs) h.length old run.start run.length t lawful), a.1, v, a.3, tt, lawful, tt)
+    pub assign_done : (run : Run) (t : Target) → Assigns shift_target same_target h xs run t h' xs' (Ok tt) → TargetJudged E t run.length (Ok tt) → AssignsVolume E h xs run t h' xs' (Ok tt)
+    assign_done run t a judged =
+        (made _ _ xs h' xs' a.0 (good_assign E (map_of shift_target h xs) h.length old run.start run.length t judged.0), (a.1.0, (v, (a.1.1.1.0, (judged.1.0, (judged.1.1.0, (judged.1.1.1.0, (judged.1.1.1.1.0, a.1.1.1.1))))))))
 
     pub cut_done : (n : ℕ) → Cuts shift_target same_target h xs n h' xs' (Ok tt) → CutsVolume E h xs n h' xs' (Ok tt)
-    cut_done n a = (made _ _ xs h' xs' a.0 (good_cut E (map_of shift_target h xs) h.length old n a.3), tt, v, a.3, tt, tt, tt)
+    cut_done n a = (made _ _ xs h' xs' a.0 (good_cut E (map_of shift_target h xs) h.length old n a.1.1.0), (v, a.1.1))
 
-  -- what is fair for its sector resolves
-  unrefused : (t : Target) (e : RosterRefusal) → Fair E t → Resolves E t (Err e) → ⊥
-  unrefused t (Table e) fair refused = refused
-  unrefused t NoDevice fair refused = refused fair.0
-  unrefused t NoSet fair refused = refused.1 fair.1
-  unrefused t LeavesTarget fair refused = refused.2 fair.2
-  unrefused t TouchesArea fair refused = refused
-  unrefused t RosterFull fair refused = refused
-  unrefused t BadDevice fair refused = refused
-  unrefused t BadSet fair refused = refused
-  unrefused t SharedArea fair refused = refused
+  -- what is fair for its sector fails no check
+  unrefused : (t : Target) (k : ℕ) → Fair E t → check 5 (HasDevice E t) (check 6 (HasSet E t) (check 7 (Below E t) end)) (Some k) → ⊥
+  unrefused t k fair refused = grind (rules, fair, refused)
 
-  pub located : (h : Head) (xs : List (Slot Target)) (i : ℕ) (t : Target) → Volume E h xs → i < h.length → ((d : Target) → t ≡ map_of shift_target h xs d i) → (r : Result Place RosterRefusal) → Resolves E t r → Locates E h xs i r
-  located h xs i t v inside is (Ok p) found = ((λ d. found.0 ∙ ap (place_of E) (is d)), tt, v, inside, tt, tt, tt)
-  located h xs i t v inside is (Err e) refused = absurd (unrefused t e (rw (is Zero) (volume_good E h xs v Zero i inside).0) refused)
+  pub located : (h : Head) (xs : List (Slot Target)) (i : ℕ) (t : Target) → VolumeJudged E h xs (Ok tt) → Looks shift_target same_target h xs i (Ok t) → (r : Result Place RosterRefusal) → Resolves E t r → Locates E h xs i r
+  located h xs i t judged looks (Ok p) found = (λ d. found.0 ∙ ap (place_of E) (looks.0 d), (judged.1.0, looks.1.1))
+  located h xs i t judged looks (Err e) refused =
+      let good = volume_good E h xs judged.1.0 Zero i looks.1.1.0 in
+      absurd (unrefused t (number_of e) (rw (looks.0 Zero) good.0) refused.1)
 
   module _ (t : Head) (tops : List (Slot Target)) (b : Head) (bases : List (Slot Target)) (h : Head) (xs : List (Slot Target)) (h' : Head) (xs' : List (Slot Target)) where
     pub overlay_done : Overlays shift_target same_target clear_target t tops b bases h xs h' xs' (Ok tt) → Volume E t tops → Volume E b bases → OverlaysVolume E t tops b bases h xs h' xs' (Ok tt)
     overlay_done a top base =
-        let level = a.5 in (
-          made _ _ xs h' xs' a.0
-              (good_over E (map_of shift_target t tops) t.length (volume_good E t tops top) (map_of shift_target b bases) (λ d i lt. volume_good E b bases base d i (omega (arith, level)))),
-          tt,
-          (top, base),
-          tt,
-          tt,
-          tt,
-          level,
-        )
+        let level = a.1.1.0 in
+        (made _ _ xs h' xs' a.0 (good_over E (map_of shift_target t tops) t.length (volume_good E t tops top) (map_of shift_target b bases) (λ d i lt. volume_good E b bases base d i (omega (arith, level)))), ((top, base), a.1.1))

@@ -1,10 +1,8 @@
-pub mod Counts
 pub mod Areas
 pub mod Added
 pub mod Stripes
 pub mod Runs
-pub mod Volumes
 pub mod Sectors
 pub mod Calls
 pub mod Tells
-pub mod Kept
+pub mod Judged

@@ -1,5 +1,5 @@
 -- A table of targets is lawful in every extent exactly if it is fair at every sector, so what a call leaves is judged sector by sector.
-use Rattle.std.proofs.Common.{◌≡◌, ℕ, ◌+◌, ◌-◌, ◌%◌, ◌^◌, ◌<◌, ◌≤◌, true, cond, eqb, ltb, List, [], ◌∷◌, take, sym, refl, ◌∙◌, subst, mod-lt, arith}
+use Rattle.std.proofs.Common.{◌≡◌, ℕ, ◌+◌, ◌-◌, ◌%◌, ◌^◌, ◌<◌, ◌≤◌, true, cond, eqb, ltb, List, [], ◌∷◌, take, sym, refl, ◌∙◌, subst, mod-lt, mod-eq_of_lt, arith}
 use Rattle.std.proofs.lemmas.Bool.{ltb-true, ltb-false, lt-ltb, le-ltb, eqb-true, and_parts, cond_both, cond-true, cond-false, false≢true}
 use Rattle.table.specs.declared.extent.Head.{Head}
 use Rattle.table.specs.declared.extent.Slot.{Slot}
@@ -11,14 +11,12 @@ use Rattle.roster.specs.declared.target.Target.{Target}
 use Rattle.roster.specs.declared.target.Target.TheVariants.{Zero, Error, Linear, Striped}
 use Rattle.roster.specs.Targets.{shift_target, same_target, clear_target}
 use Rattle.roster.specs.Places.{Fair, Lawful, AllLawful, Volume}
-use Rattle.roster.proofs.Runs.{plain}
 
 -- sector and offset have 64 bits
 abbrev pub Reduced : Target → Type 0
-Reduced Zero = Unit {0}
-Reduced Error = Unit {0}
 Reduced (Linear d s) = s < 2 ^ 64
 Reduced (Striped n o) = o < 2 ^ 64
+Reduced _ = Unit {0}
 
 reduced_shift : (t : Target) (k : ℕ) → Reduced (shift_target t k)
 reduced_shift Zero k = tt
@@ -27,32 +25,21 @@ reduced_shift (Linear d s) k = mod-lt (s + k) (omega arith)
 reduced_shift (Striped n o) k = mod-lt (o + k) (omega arith)
 
 wrapped_same : (a b : ℕ) → a < 2 ^ 64 → b < 2 ^ 64 → eqb (a % 2 ^ 64) (b % 2 ^ 64) ≡ true → a ≡ b
-wrapped_same a b p q e = sym (plain a p) ∙ eqb-true _ _ e ∙ plain b q
+wrapped_same a b p q e = sym (mod-eq_of_lt p) ∙ eqb-true _ _ e ∙ mod-eq_of_lt q
 
 -- of targets that code can hold, same ones are equal
 same_equal : (t u : Target) → Reduced t → Reduced u → same_target t u ≡ true → t ≡ u
 same_equal Zero Zero p q e = refl
-same_equal Zero Error p q e = absurd (false≢true e)
-same_equal Zero (Linear d s) p q e = absurd (false≢true e)
-same_equal Zero (Striped n o) p q e = absurd (false≢true e)
-same_equal Error Zero p q e = absurd (false≢true e)
 same_equal Error Error p q e = refl
-same_equal Error (Linear d s) p q e = absurd (false≢true e)
-same_equal Error (Striped n o) p q e = absurd (false≢true e)
-same_equal (Linear d s) Zero p q e = absurd (false≢true e)
-same_equal (Linear d s) Error p q e = absurd (false≢true e)
 same_equal (Linear d s) (Linear d' s') p q e =
     let h = and_parts (eqb d d') (eqb (s % 2 ^ 64) (s' % 2 ^ 64)) e in
     let x : d ≡ d' = eqb-true d d' h.0 in
     let y : s ≡ s' = wrapped_same s s' p q h.1 in cc
-same_equal (Linear d s) (Striped n o) p q e = absurd (false≢true e)
-same_equal (Striped n o) Zero p q e = absurd (false≢true e)
-same_equal (Striped n o) Error p q e = absurd (false≢true e)
-same_equal (Striped n o) (Linear d s) p q e = absurd (false≢true e)
 same_equal (Striped n o) (Striped n' o') p q e =
     let h = and_parts (eqb n n') (eqb (o % 2 ^ 64) (o' % 2 ^ 64)) e in
     let x : n ≡ n' = eqb-true n n' h.0 in
     let y : o ≡ o' = wrapped_same o o' p q h.1 in cc
+same_equal _ _ p q e = absurd (false≢true e)
 
 climbs_top : (s : Slot Target) (ss : List (Slot Target)) (n : ℕ) → Climbs s ss n → s.start < n
 climbs_top s [] n up = up

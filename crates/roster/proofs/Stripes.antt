@@ -1,9 +1,11 @@
 -- How the offsets of a stripe set go over its columns: each to its own sector of an area.
-use Rattle.std.proofs.Common.{◌≡◌, ℕ, ◌+◌, ◌*◌, ◌/◌, ◌%◌, ◌^◌, ◌<◌, ◌≤◌, List, sym, ap, ◌∙◌, mul_assoc, mul_comm, arith}
+use Rattle.std.proofs.Common.{◌≡◌, ℕ, ◌+◌, ◌*◌, ◌/◌, ◌%◌, ◌^◌, ◌<◌, ◌≤◌, sym, ap, ◌∙◌, mul_assoc, mul_comm, arith}
 use Rattle.std.proofs.lemmas.Nat.{div-add-mod', div_below, mod_below, mul-add-lt, mul-le, div-mul-add, mod-mul-add}
 use Rattle.roster.specs.declared.entry.SetEntry.{SetEntry}
-use Rattle.roster.specs.Rosters.{column_at, span, size_of, Shaped}
-use Rattle.roster.specs.Places.{column_of, row_of, Roomy}
+use Rattle.roster.specs.declared.stripe.Stripe.{Stripe}
+use Rattle.roster.specs.declared.stripe.StripeSet.{StripeSet}
+use Rattle.roster.specs.Rosters.{span, size_of, Shaped}
+use Rattle.roster.specs.Places.{column_of, row_of, Bounded}
 
 -- how far into its column's area an offset lies
 abbrev pub depth_of : SetEntry → ℕ → ℕ
@@ -19,7 +21,7 @@ module _ (e : SetEntry) (shaped : Shaped e) where
   rest_below : (o : ℕ) → o % e.chunk < e.chunk
   rest_below o = mod_below o e.chunk (omega (arith, shaped.2))
 
-  pub row_below : (o : ℕ) → o < size_of e → row_of e o < e.rows
+  row_below : (o : ℕ) → o < size_of e → row_of e o < e.rows
   row_below o h =
       div_below (o / e.chunk) e.width e.rows (omega (arith, shaped.0))
       (div_below o e.chunk (e.rows * e.width) (omega (arith, shaped.2)) (omega (arith, turned e.width e.chunk e.rows)))
@@ -48,12 +50,16 @@ module _ (e : SetEntry) (shaped : Shaped e) where
       ∙ ap (λ n. (p / e.chunk) * e.chunk + n) same_rest
       ∙ div-add-mod' p e.chunk
 
-  module _ (sizes : List ℕ) (roomy : Roomy e sizes) where
-    pub span_bounded : span e ≤ 2 ^ 40
-    span_bounded = let h = roomy 0 (omega (arith, shaped.0)) in omega (arith, h.0, h.1)
+  module _ (bounded : Bounded e) where
+    span_bounded : span e ≤ 2 ^ 40
+    span_bounded = omega (arith, bounded 0 (omega (arith, shaped.0)))
 
-    pub size_bounded : size_of e ≤ 8 * 2 ^ 40
+    size_bounded : size_of e ≤ 8 * 2 ^ 40
     size_bounded = mul-le e.width (span e) 8 (2 ^ 40) shaped.1 span_bounded
 
-    pub sector_bounded : (o : ℕ) → o < size_of e → (column_at e (column_of e o)).base + depth_of e o < 2 ^ 40
-    sector_bounded o h = let r = roomy (column_of e o) (column_below o) in omega (arith, r.0, r.1, depth_below o h)
+-- a stripe, and a stripe set, is no larger than eight devices, by what its ghost fields say
+pub stripe_size : (s : Stripe) → size_of s.numbers.now ≤ 8 * 2 ^ 40
+stripe_size s = size_bounded s.numbers.now s.shaped s.bounded
+
+pub set_size : (s : StripeSet) → size_of s.numbers ≤ 8 * 2 ^ 40
+set_size s = size_bounded s.numbers s.shaped (λ j h. omega (arith, s.roomy j h))

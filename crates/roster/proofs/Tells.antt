@@ -1,10 +1,10 @@
 -- On fair targets the place tells the target: linear ones lie outside all areas, areas share no sector, and a set's offsets go one to one.
-use Rattle.std.proofs.Common.{◌≡◌, ℕ, ◌+◌, ◌%◌, ◌^◌, ◌<◌, ◌≤◌, true, ◌&&◌, eqb, sym, refl, ap, ◌∙◌, subst, ⊎_elim, arith}
+use Rattle.std.proofs.Common.{◌≡◌, ℕ, ◌+◌, ◌%◌, ◌^◌, ◌<◌, ◌≤◌, length, true, ◌&&◌, eqb, sym, refl, ap, ◌∙◌, subst, ⊎_elim, arith}
 use Rattle.std.proofs.lemmas.Bool.{cases_eq, eq-eqb, and_from}
 use Rattle.roster.specs.declared.entry.Entries.{Entries}
 use Rattle.roster.specs.declared.place.Place.TheVariants.{At}
 use Rattle.roster.specs.declared.target.Target.TheVariants.{Zero, Error, Linear, Striped}
-use Rattle.roster.specs.Rosters.{set_at, column_at, span, size_of, area_of, Holds, Listed, Sound}
+use Rattle.roster.specs.Rosters.{set_at, column_at, span, size_of, area_of, Holds, Listed, Shaped, Sound}
 use Rattle.roster.specs.Places.{column_of, stripe_place, Fair, PlacesTell}
 use Rattle.roster.proofs.Stripes.{depth_of, column_below, depth_below, offset_back}
 
@@ -27,13 +27,16 @@ module _ (E : Entries) (s : Sound E) where
   abbrev device_of : ℕ → ℕ → ℕ
   device_of n o = (column_at (set_at E n) (column_of (set_at E n) o)).device
 
-  module _ (n o : ℕ) (listed : n < E.set_count) (below : o < size_of (set_at E n)) where
+  set_shaped : (n : ℕ) → n < length E.sets.items → Shaped (set_at E n)
+  set_shaped n h = s.shaped n _ h
+
+  module _ (n o : ℕ) (listed : n < length E.sets.items) (below : o < size_of (set_at E n)) where
     in_column : Listed E n (column_of (set_at E n) o)
-    in_column = (listed, column_below (set_at E n) (s.shaped n listed) o)
+    in_column = (listed, column_below (set_at E n) (set_shaped n listed) o)
 
     -- a striped target lies in the area of its column
     in_area : Holds (area_of (set_at E n) (column_of (set_at E n) o)) (device_of n o) (sector_of n o)
-    in_area = (refl, omega arith, omega (arith, depth_below (set_at E n) (s.shaped n listed) o below))
+    in_area = (refl, omega arith, omega (arith, depth_below (set_at E n) (set_shaped n listed) o below))
 
   -- a linear target in an area is not fair
   outside : (d t n o : ℕ) → Fair E (Linear d t) → Fair E (Striped n o) → At d t ≡ stripe_place (set_at E n) o → ⊥
@@ -80,7 +83,7 @@ module _ (E : Entries) (s : Sound E) where
   same_offset : (n o p : ℕ) → Fair E (Striped n o) → column_of (set_at E n) o ≡ column_of (set_at E n) p → sector_of n o ≡ sector_of n p → o ≡ p
   same_offset n o p fair column sector =
       let bases : (column_at (set_at E n) (column_of (set_at E n) o)).base ≡ (column_at (set_at E n) (column_of (set_at E n) p)).base = ap (λ j. (column_at (set_at E n) j).base) column in
-      offset_back (set_at E n) (s.shaped n fair.1) o p column (omega (arith, bases, sector))
+      offset_back (set_at E n) (set_shaped n fair.1) o p column (omega (arith, bases, sector))
 
   stripes_tell : (n o m p : ℕ) → Fair E (Striped n o) → Fair E (Striped m p) → stripe_place (set_at E n) o ≡ stripe_place (set_at E m) p → (n ≡ m) × (o ≡ p)
   stripes_tell n o m p one other same =
@@ -94,18 +97,9 @@ module _ (E : Entries) (s : Sound E) where
 
   pub places_tell : PlacesTell E
   places_tell Zero Zero one other p = refl
-  places_tell Zero Error one other p = cc
-  places_tell Zero (Linear d t) one other p = cc
-  places_tell Zero (Striped n o) one other p = cc
-  places_tell Error Zero one other p = cc
   places_tell Error Error one other p = refl
-  places_tell Error (Linear d t) one other p = cc
-  places_tell Error (Striped n o) one other p = cc
-  places_tell (Linear d t) Zero one other p = cc
-  places_tell (Linear d t) Error one other p = cc
   places_tell (Linear d t) (Linear e u) one other p = parts_same d e t u (at_device d t e u p) (at_sector d t e u p)
   places_tell (Linear d t) (Striped n o) one other p = absurd (outside d t n o one other p)
-  places_tell (Striped n o) Zero one other p = cc
-  places_tell (Striped n o) Error one other p = cc
   places_tell (Striped n o) (Linear d t) one other p = absurd (outside d t n o other one (sym p))
   places_tell (Striped n o) (Striped m q) one other p = let h = stripes_tell n o m q one other p in parts_same n m o q h.0 h.1
+  places_tell _ _ one other p = cc

@@ -1,8 +1,8 @@
 -- Where targets lie under a roster, which are lawful, and which tables of targets are volumes.
-use Rattle.std.specs.Prelude.{◌≡◌, ℕ, ◌+◌, ◌-◌, ◌*◌, ◌/◌, ◌%◌, ◌^◌, ◌<◌, ◌≤◌, true, List, [], ◌∷◌, take, slice_index}
+use Rattle.std.specs.Prelude.{◌≡◌, ℕ, ◌+◌, ◌-◌, ◌*◌, ◌/◌, ◌%◌, ◌^◌, ◌<◌, ◌≤◌, true, List, [], ◌∷◌, length, take, slice_index}
 use Rattle.table.specs.declared.extent.Head.{Head}
 use Rattle.table.specs.declared.extent.Slot.{Slot}
-use Rattle.table.specs.Extents.{Normal}
+use Rattle.table.specs.Extents.{Normal, next}
 use Rattle.roster.specs.declared.entry.SetEntry.{SetEntry}
 use Rattle.roster.specs.declared.entry.Entries.{Entries}
 use Rattle.roster.specs.declared.place.Place.{Place}
@@ -29,6 +29,10 @@ stripe_place e o =
 abbrev pub Roomy : SetEntry → List ℕ → Type 0
 Roomy e sizes = (j : ℕ) → j < e.width → ((column_at e j).base + span e ≤ slice_index sizes j) × (slice_index sizes j ≤ 2 ^ 40)
 
+-- every column's area ends within the limit
+abbrev pub Bounded : SetEntry → Type 0
+Bounded e = (j : ℕ) → j < e.width → (column_at e j).base + span e ≤ 2 ^ 40
+
 -- the sizes given for the columns are those of the devices that they name
 abbrev pub SizedBy : Entries → SetEntry → List ℕ → Type 0
 SizedBy E e sizes = (j : ℕ) → j < e.width → slice_index sizes j ≡ (device_at E (column_at e j).device).size
@@ -42,31 +46,24 @@ place_of E (Striped n o) = stripe_place (set_at E n) o
 
 -- the device that a linear target names is listed
 abbrev pub HasDevice : Entries → Target → Type 0
-HasDevice E Zero = Unit {0}
-HasDevice E Error = Unit {0}
-HasDevice E (Linear d s) = d < E.device_count
-HasDevice E (Striped n o) = Unit {0}
+HasDevice E (Linear d s) = d < length E.devices.items
+HasDevice E _ = Unit {0}
 
 -- the set that a striped target names is listed
 abbrev pub HasSet : Entries → Target → Type 0
-HasSet E Zero = Unit {0}
-HasSet E Error = Unit {0}
-HasSet E (Linear d s) = Unit {0}
-HasSet E (Striped n o) = n < E.set_count
+HasSet E (Striped n o) = n < length E.sets.items
+HasSet E _ = Unit {0}
 
 -- the sector is below the size of its device, the offset below that of its set
 abbrev pub Below : Entries → Target → Type 0
-Below E Zero = Unit {0}
-Below E Error = Unit {0}
 Below E (Linear d s) = s < (device_at E d).size
 Below E (Striped n o) = o < size_of (set_at E n)
+Below E _ = Unit {0}
 
 -- a linear target that touches an area
 abbrev pub Touches : Entries → Target → Type 0
-Touches E Zero = ⊥
-Touches E Error = ⊥
 Touches E (Linear d s) = Owned E d s
-Touches E (Striped n o) = ⊥
+Touches E _ = ⊥
 
 -- one sector resolves inside its device or set, and touches no area if linear
 abbrev pub Fair : Entries → Target → Type 0
@@ -87,11 +84,6 @@ Clears E t l = (k : ℕ) → k < l → Touches E (shift_target t k) → ⊥
 -- a target is lawful for a run of l sectors
 abbrev pub Lawful : Entries → Target → ℕ → Type 0
 Lawful E t l = (k : ℕ) → k < l → Fair E (shift_target t k)
-
--- where the extent before these slots ends, in a table of n sectors
-abbrev pub next : List (Slot Target) → ℕ → ℕ
-next [] n = n
-next (t ∷ ts) n = t.start
 
 -- every extent's target is lawful over the whole extent
 abbrev pub AllLawful : Entries → List (Slot Target) → ℕ → Type 0

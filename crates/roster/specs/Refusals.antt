@@ -1,8 +1,8 @@
 -- The numbers and layers of the refusals.
 use Rattle.std.specs.Prelude.{ℕ}
 use Rattle.table.specs.Refusals.{number_of as table_number_of}
-use Rattle.roster.specs.declared.refusal.Layer.{Layer}
-use Rattle.roster.specs.declared.refusal.Layer.TheVariants.{Table as table_layer, Roster as roster_layer}
+use Rattle.table.specs.declared.refusal.Layer.{Layer}
+use Rattle.table.specs.declared.refusal.Layer.TheVariants.{Table as table_layer, Roster as roster_layer}
 use Rattle.roster.specs.declared.refusal.RosterRefusal.{RosterRefusal}
 use Rattle.roster.specs.declared.refusal.RosterRefusal.TheVariants.{Table, NoDevice, NoSet, LeavesTarget, TouchesArea, RosterFull, BadDevice, BadSet, SharedArea}
 
@@ -21,11 +21,4 @@ number_of SharedArea = 15
 -- the layer that a refusal comes from
 abbrev pub layer_of : RosterRefusal → Layer
 layer_of (Table e) = table_layer
-layer_of NoDevice = roster_layer
-layer_of NoSet = roster_layer
-layer_of LeavesTarget = roster_layer
-layer_of TouchesArea = roster_layer
-layer_of RosterFull = roster_layer
-layer_of BadDevice = roster_layer
-layer_of BadSet = roster_layer
-layer_of SharedArea = roster_layer
+layer_of _ = roster_layer

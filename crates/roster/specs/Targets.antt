@@ -13,25 +13,12 @@ shift_target (Striped n o) k = Striped n ((o + k) % 2 ^ 64)
 -- all parts are equal
 abbrev pub same_target : Target → Target → Bool
 same_target Zero Zero = true
-same_target Zero Error = false
-same_target Zero (Linear e t) = false
-same_target Zero (Striped m p) = false
-same_target Error Zero = false
 same_target Error Error = true
-same_target Error (Linear e t) = false
-same_target Error (Striped m p) = false
-same_target (Linear d s) Zero = false
-same_target (Linear d s) Error = false
 same_target (Linear d s) (Linear e t) = d == e && s % 2 ^ 64 == t % 2 ^ 64
-same_target (Linear d s) (Striped m p) = false
-same_target (Striped n o) Zero = false
-same_target (Striped n o) Error = false
-same_target (Striped n o) (Linear e t) = false
 same_target (Striped n o) (Striped m p) = n == m && o % 2 ^ 64 == p % 2 ^ 64
+same_target _ _ = false
 
 -- only error lets an overlay's base show through
 abbrev pub clear_target : Target → Bool
-clear_target Zero = false
 clear_target Error = true
-clear_target (Linear d s) = false
-clear_target (Striped n o) = false
+clear_target _ = false

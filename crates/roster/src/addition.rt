@@ -1,173 +1,121 @@
 // The checks that a device or a set passes before a roster lists it.
-ghost use Rattle.std.specs.Prelude.{◌≡◌, ℕ, ◌<◌, ◌≤◌, length, MatchBool};
-ghost use Rattle.roster.specs.Rosters.{column_at, SoundDevice, Shaped, NoClash, Sound};
-ghost use Rattle.roster.specs.Additions.{Unlisted, DeviceJudged, ColumnsApart, Apart, Fitting, NamesListed, Housed, entry_of, with_set, SetJudged};
+ghost use Rattle.std.specs.Prelude.{◌≡◌, ◌≤◌, ◌↔◌, IsTrue, length, All};
+ghost use Rattle.table.specs.Checks.{Answers};
+ghost use Rattle.roster.specs.Refusals.{number_of};
+ghost use Rattle.roster.specs.Rosters.{SoundDevice, NoClash};
+ghost use Rattle.roster.specs.Additions.{Apart, Unlisted, DeviceJudged, NamesListed, entry_of, set_checks, with_set};
 
-use crate::area::{Area, fits};
 use crate::entry::{Column, Device, Entries, SetEntry};
+use crate::open::OpenRoster;
 use crate::refusal::RosterRefusal;
+use crate::stripe::Stripe;
 use table::normal::LIMIT;
 
-// Whether a device's numbers and size are in range.
-fn is_sound(device: Device) -> bool
-    ensures { MatchBool result (SoundDevice device) (SoundDevice device → ⊥) }
-{
-    device.major <= 4095 && device.minor <= 1048575 && device.size >= 1 && device.size <= LIMIT
+impl Device {
+    // Whether numbers and size are in range.
+    fn is_sound(&self) -> bool
+        ensures { IsTrue result ↔ SoundDevice self.now }
+    {
+        self.major <= 4095 && self.minor <= 1048575 && (1..=LIMIT).contains(&self.size)
+    }
 }
 
-// Whether no listed device has the numbers of this one.
-fn is_unlisted(entries: &Entries, device: Device) -> bool
-    requires { entries.now.device_count ≤ 32 }
-    ensures { MatchBool result (Unlisted entries.now device) (Unlisted entries.now device → ⊥) }
-{
-    for i in 0..entries.device_count {
-        if entries.devices[i].major == device.major && entries.devices[i].minor == device.minor {
-            return false;
+impl SetEntry {
+    // The entry of a set with these columns.
+    #[tactic(auto, using(crate::proofs::Added::padding))]
+    fn new(chunk: u64, rows: u64, columns: &[Column]) -> SetEntry
+        requires { length columns.now ≤ 8 }
+        ensures { result ≡ entry_of chunk rows columns.now }
+    {
+        let mut all = [Column::default(); 8];
+        all[..columns.len()].copy_from_slice(columns);
+        SetEntry {
+            width: columns.len(),
+            chunk,
+            rows,
+            columns: all,
         }
     }
-    true
 }
 
-// Judges a device for a roster.
-pub(crate) fn judge_device(entries: &Entries, device: Device) -> Result<(), RosterRefusal>
-    ensures { DeviceJudged entries.now device result }
-{
-    if entries.device_count >= 32 {
-        return Err(RosterRefusal::RosterFull);
+impl Entries {
+    // Whether no listed device has the numbers of this one.
+    fn is_unlisted(&self, device: Device) -> bool
+        ensures { IsTrue result ↔ Unlisted self.now device }
+    {
+        self.devices.iter().all(|listed| listed.major != device.major
+            || listed.minor != device.minor)
     }
-    if !is_sound(device) {
-        return Err(RosterRefusal::BadDevice);
+
+    // Whether every column names a listed device.
+    fn names_listed(&self, columns: &[Column]) -> bool
+        ensures { IsTrue result ↔ NamesListed self.now columns.now }
+    {
+        columns
+            .iter()
+            .all(|column| self.device(column.device).is_some())
     }
-    if !is_unlisted(entries, device) {
-        return Err(RosterRefusal::BadDevice);
-    }
-    Ok(())
 }
 
-// Whether every column names a listed device.
-fn names_listed(entries: &Entries, columns: &[Column]) -> bool
-    ensures { MatchBool result (NamesListed entries.now columns.now) (NamesListed entries.now columns.now → ⊥) }
-{
-    for column in columns {
-        if column.device as usize >= entries.device_count {
-            return false;
+impl OpenRoster {
+    // Refuses a device if the roster is full, its numbers or size are out of range, or it is listed.
+    pub(crate) fn judge_device(&self, device: Device) -> Result<(), RosterRefusal>
+        ensures { DeviceJudged self.now.entries device result }
+    {
+        if self.entries.devices.is_full() {
+            return Err(RosterRefusal::RosterFull);
         }
-    }
-    true
-}
-
-// The entry of a set with these columns.
-pub(crate) fn entry_of(chunk: u64, rows: u64, columns: &[Column]) -> SetEntry
-    requires { length columns.now ≤ 8 }
-    ensures { result ≡ entry_of chunk rows columns.now }
-{
-    let mut all = [Column { device: 0, base: 0 }; 8];
-    for i in 0..columns.len() {
-        all[i] = columns[i];
-    }
-    SetEntry {
-        width: columns.len(),
-        chunk,
-        rows,
-        columns: all,
-    }
-}
-
-// Whether columns, chunk and rows of a set are in range.
-pub(crate) fn is_shaped(stripe: &SetEntry) -> bool
-    ensures { MatchBool result (Shaped stripe.now) (Shaped stripe.now → ⊥) }
-{
-    stripe.width >= 2
-        && stripe.width <= 8
-        && stripe.chunk >= 8
-        && stripe.chunk <= 65536
-        && stripe.rows >= 1
-}
-
-// Whether every area of a set lies inside its device.
-fn is_housed(entries: &Entries, stripe: &SetEntry) -> bool
-    requires { (Shaped stripe.now) × (((j : ℕ) → j < stripe.now.width → (column_at stripe.now j).device < 32)) }
-    ensures { MatchBool result (Housed entries.now stripe.now) (Housed entries.now stripe.now → ⊥) }
-{
-    for j in 0..stripe.width {
-        let column = stripe.columns[j];
-        let size = entries.devices[column.device as usize].size;
-        if !fits(size, column.base, stripe.chunk, stripe.rows) {
-            return false;
+        if !device.is_sound() || !self.entries.is_unlisted(device) {
+            return Err(RosterRefusal::BadDevice);
         }
+        Ok(())
     }
-    true
-}
 
-// Whether a column of one set and a column of another share no sector; a column does not count against itself.
-fn columns_apart(a: &SetEntry, j: usize, b: &SetEntry, k: usize, one: bool) -> bool
-    requires { (Fitting a.now) × ((Fitting b.now) × ((j < a.now.width) × (k < b.now.width))) }
-    ensures { MatchBool result (ColumnsApart one a.now j b.now k) (ColumnsApart one a.now j b.now k → ⊥) }
-{
-    if one && j == k {
-        return true;
-    }
-    !Area::of_column(a, j).meets(Area::of_column(b, k))
-}
-
-// Whether no area of one set shares a sector with an area of the other, or with another of its own if the two are one.
-fn are_apart(a: &SetEntry, b: &SetEntry, one: bool) -> bool
-    requires { (Fitting a.now) × (Fitting b.now) }
-    ensures { MatchBool result (Apart one a.now b.now) (Apart one a.now b.now → ⊥) }
-{
-    for j in 0..a.width {
-        for k in 0..b.width {
-            if !columns_apart(a, j, b, k, one) {
+    // Whether no listed set shares a sector with this one.
+    fn is_apart_from_listed(&self, stripe: &Stripe<'_>) -> bool
+        ensures { IsTrue result ↔ All (λ e. Apart e stripe.now.numbers.now) self.now.entries.sets.items }
+    {
+        let sets = self.entries.sets.as_slice();
+        for numbers in sets {
+            let listed = Stripe { numbers };
+            if !listed.is_apart(stripe) {
                 return false;
             }
         }
+        true
     }
-    true
-}
 
-// Whether a set with these numbers would share no sector with the listed ones or within itself.
-fn is_apart(entries: &Entries, stripe: &SetEntry) -> bool
-    requires sound { Sound entries.now }
-    requires room { entries.now.set_count < 16 }
-    requires fitting { Fitting stripe.now }
-    ensures { MatchBool result (NoClash (with_set entries.now stripe.now)) (NoClash (with_set entries.now stripe.now) → ⊥) }
-{
-    for n in 0..entries.set_count {
-        if !are_apart(&entries.sets[n], stripe, false) {
-            return false;
+    // Whether a set would share no sector with the listed ones or within itself.
+    #[tactic(auto, using(crate::proofs::Added::apart_judged))]
+    fn is_apart(&self, stripe: &Stripe<'_>) -> bool
+        ensures { IsTrue result ↔ NoClash (with_set self.now.entries stripe.now.numbers.now) }
+    {
+        self.is_apart_from_listed(stripe) && stripe.is_apart_within()
+    }
+
+    // Judges a set, and answers the entry of one that passes.
+    pub(crate) fn judge_set(
+        &self,
+        chunk: u64,
+        rows: u64,
+        columns: &[Column],
+    ) -> Result<SetEntry, RosterRefusal>
+        ensures { Answers number_of (set_checks self.now.entries chunk rows columns.now) (Unit {0}) (λ e. e ≡ entry_of chunk rows columns.now) result }
+    {
+        if !self.entries.names_listed(columns) {
+            return Err(RosterRefusal::NoDevice);
         }
+        if self.entries.sets.is_full() {
+            return Err(RosterRefusal::RosterFull);
+        }
+        if columns.len() > 8 {
+            return Err(RosterRefusal::BadSet);
+        }
+        let entry = SetEntry::new(chunk, rows, columns);
+        let set = self.entries.judged(entry).ok_or(RosterRefusal::BadSet)?;
+        if !self.is_apart(&set.stripe()) {
+            return Err(RosterRefusal::SharedArea);
+        }
+        Ok(entry)
     }
-    are_apart(stripe, stripe, true)
-}
-
-// Judges a set for a roster.
-pub(crate) fn judge_set(
-    entries: &Entries,
-    chunk: u64,
-    rows: u64,
-    columns: &[Column],
-) -> Result<(), RosterRefusal>
-    requires { Sound entries.now }
-    ensures { SetJudged entries.now chunk rows columns.now result }
-{
-    if !names_listed(entries, columns) {
-        return Err(RosterRefusal::NoDevice);
-    }
-    if entries.set_count >= 16 {
-        return Err(RosterRefusal::RosterFull);
-    }
-    if columns.len() > 8 {
-        return Err(RosterRefusal::BadSet);
-    }
-    let stripe = entry_of(chunk, rows, columns);
-    if !is_shaped(&stripe) {
-        return Err(RosterRefusal::BadSet);
-    }
-    if !is_housed(entries, &stripe) {
-        return Err(RosterRefusal::BadSet);
-    }
-    if !is_apart(entries, &stripe) {
-        return Err(RosterRefusal::SharedArea);
-    }
-    Ok(())
 }

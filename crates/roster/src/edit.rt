@@ -1,116 +1,94 @@
 // The calls on volumes under a closed roster.
 ghost use Rattle.std.specs.Prelude.{◌≡◌};
+ghost use Rattle.table.specs.Rows.{SameRow};
 ghost use Rattle.roster.specs.Volumes.{AppendsVolume, AssignsVolume, CutsVolume, OverlaysVolume, Locates};
 
 use crate::closed::ClosedRoster;
 use crate::place::Place;
 use crate::refusal::RosterRefusal;
 use crate::target::Target;
-use table::extent::{Head, Run, Slot};
+use table::extent::Run;
 use table::normal::LIMIT;
 use table::refusal::Refusal;
-use table::{assign, edit, overlay};
+use table::table::{Table, View};
 
 impl ClosedRoster {
     // Adds `length` sectors at the end, with the target and what it is further on.
     pub fn append(
         &self,
-        head: &mut Head,
-        slots: &mut [Slot<Target>],
+        volume: &mut Table<'_, Target>,
         length: u64,
         target: Target,
     ) -> Result<(), RosterRefusal>
-        ensures { AppendsVolume self.now.entries head.old slots.old length target head.new slots.new result }
+        ensures appends { AppendsVolume self.now.entries volume.old.head volume.old.slots.now length target volume.new.head volume.new.slots.now result }
+        ensures same_row { SameRow volume.old volume.new }
     {
         if length == 0 {
-            return Err(RosterRefusal::Table(Refusal::EmptyLength));
+            return Err(Refusal::EmptyLength.into());
         }
-        if !self.is_volume(head, slots) {
-            return Err(RosterRefusal::Table(Refusal::BrokenTable));
-        }
-        if length > LIMIT - head.length {
-            return Err(RosterRefusal::Table(Refusal::PastLimit));
+        self.judge_volume(&volume.view())?;
+        if length > LIMIT - volume.head.length {
+            return Err(Refusal::PastLimit.into());
         }
         self.judge_target(target, length)?;
-        edit::append(head, slots, length, target)?;
+        volume.append(length, target)?;
         Ok(())
     }
 
     // Gives a run the target, and each of its sectors what the target is there.
     pub fn assign(
         &self,
-        head: &mut Head,
-        slots: &mut [Slot<Target>],
+        volume: &mut Table<'_, Target>,
         run: Run,
         target: Target,
     ) -> Result<(), RosterRefusal>
-        ensures { AssignsVolume self.now.entries head.old slots.old run target head.new slots.new result }
+        ensures assigns { AssignsVolume self.now.entries volume.old.head volume.old.slots.now run target volume.new.head volume.new.slots.now result }
+        ensures same_row { SameRow volume.old volume.new }
     {
         if run.length == 0 {
-            return Err(RosterRefusal::Table(Refusal::EmptyLength));
+            return Err(Refusal::EmptyLength.into());
         }
-        if !self.is_volume(head, slots) {
-            return Err(RosterRefusal::Table(Refusal::BrokenTable));
-        }
-        if !run.is_inside(head.length) {
-            return Err(RosterRefusal::Table(Refusal::Outside));
+        self.judge_volume(&volume.view())?;
+        if !run.is_inside(volume.head.length) {
+            return Err(Refusal::Outside.into());
         }
         self.judge_target(target, run.length)?;
-        assign::assign(head, slots, run, target)?;
+        volume.assign(run, target)?;
         Ok(())
     }
 
-    // Keeps the first `length` sectors.
-    pub fn cut(
-        &self,
-        head: &mut Head,
-        slots: &[Slot<Target>],
-        length: u64,
-    ) -> Result<(), RosterRefusal>
-        ensures { CutsVolume self.now.entries head.old slots.now length head.new slots.now result }
+    // Keeps the first `length` sectors. Only the head is written, so a shared row suffices.
+    pub fn cut(&self, volume: &mut View<'_, Target>, length: u64) -> Result<(), RosterRefusal>
+        ensures cuts { CutsVolume self.now.entries volume.old.head volume.old.slots.now length volume.new.head volume.new.slots.now result }
+        ensures slots { volume.new.slots.now ≡ volume.old.slots.now }
     {
-        if !self.is_volume(head, slots) {
-            return Err(RosterRefusal::Table(Refusal::BrokenTable));
-        }
-        edit::cut(head, slots, length)?;
+        self.judge_volume(volume)?;
+        volume.cut(length)?;
         Ok(())
     }
 
     // Fills a third table with the top, and with the base where the top's target is error.
     pub fn overlay(
         &self,
-        head: &mut Head,
-        slots: &mut [Slot<Target>],
-        top_head: &Head,
-        top: &[Slot<Target>],
-        base_head: &Head,
-        base: &[Slot<Target>],
+        volume: &mut Table<'_, Target>,
+        top: &View<'_, Target>,
+        base: &View<'_, Target>,
     ) -> Result<(), RosterRefusal>
-        ensures { OverlaysVolume self.now.entries top_head.now top.now base_head.now base.now head.old slots.old head.new slots.new result }
+        ensures overlays { OverlaysVolume self.now.entries top.now.head top.now.slots.now base.now.head base.now.slots.now volume.old.head volume.old.slots.now volume.new.head volume.new.slots.now result }
+        ensures same_row { SameRow volume.old volume.new }
     {
-        if !self.is_volume(top_head, top) {
-            return Err(RosterRefusal::Table(Refusal::BrokenTable));
-        }
-        if !self.is_volume(base_head, base) {
-            return Err(RosterRefusal::Table(Refusal::BrokenTable));
-        }
-        overlay::overlay(head, slots, top_head, top, base_head, base)?;
+        self.judge_volume(top)?;
+        self.judge_volume(base)?;
+        volume.overlay(top, base)?;
         Ok(())
     }
 
     // Where a sector of a volume lies.
-    pub fn locate(
-        &self,
-        head: &Head,
-        slots: &[Slot<Target>],
-        sector: u64,
-    ) -> Result<Place, RosterRefusal>
-        ensures { Locates self.now.entries head.now slots.now sector result }
+    pub fn locate(&self, volume: &View<'_, Target>, sector: u64) -> Result<Place, RosterRefusal>
+        ensures { Locates self.now.entries volume.now.head volume.now.slots.now sector result }
     {
-        if !self.is_volume(head, slots) {
-            return Err(RosterRefusal::Table(Refusal::BrokenTable));
-        }
-        let target = edit::look(head, slots, sector)?;
+        self.judge_volume(volume)?;
+        let target = volume.look(sector)?;
         self.resolve(target)
     }
 }

@@ -1,7 +1,11 @@
 // What a roster lists, as plain numbers.
+ghost use Rattle.std.specs.Prelude.{◌≡◌, ◌<◌, ◌≤◌, length, take, MatchOption};
+ghost use Rattle.roster.specs.Rosters.{device_at};
+
+use arrayvec::ArrayVec;
 
 // A block device by its kernel numbers, with its size in sectors.
-#[derive(Clone, Copy)]
+#[derive(Clone, Copy, Debug, Default, PartialEq, Eq)]
 pub struct Device {
     pub major: u32,
     pub minor: u32,
@@ -9,14 +13,15 @@ pub struct Device {
 }
 
 // A column of a stripe set: its area begins at sector `base` of the device with that number in the roster.
-#[derive(Clone, Copy)]
+#[derive(Clone, Copy, Debug, Default, PartialEq, Eq)]
 pub struct Column {
     pub device: u8,
     pub base: u64,
 }
 
 // The numbers of a stripe set; the first `width` columns count.
-#[derive(Clone, Copy)]
+// An array, not an ArrayVec, since a stripe set is made from a copy of the whole entry, and an ArrayVec is no Copy type.
+#[derive(Clone, Copy, Debug, Default, PartialEq, Eq)]
 pub struct SetEntry {
     pub width: usize,
     pub chunk: u64,
@@ -24,11 +29,28 @@ pub struct SetEntry {
     pub columns: [Column; 8],
 }
 
-// The first `device_count` devices and the first `set_count` sets are listed.
-#[derive(Clone, Copy)]
+impl SetEntry {
+    // The columns that count.
+    pub fn counted(&self) -> &[Column]
+        ensures columns { result.now ≡ take self.now.width self.now.columns }
+        ensures many { self.now.width ≤ 8 → length result.now ≡ self.now.width }
+    {
+        &self.columns[..self.width.min(8)]
+    }
+}
+
+// The devices and the sets that are listed, each by its place.
+#[derive(Debug, Drop, PartialEq, Eq)]
 pub struct Entries {
-    pub devices: [Device; 32],
-    pub device_count: usize,
-    pub sets: [SetEntry; 16],
-    pub set_count: usize,
+    pub devices: ArrayVec<Device, 32>,
+    pub sets: ArrayVec<SetEntry, 16>,
+}
+
+impl Entries {
+    // The device with a number, if it is listed.
+    pub fn device(&self, number: u8) -> Option<Device>
+        ensures { MatchOption result (length self.now.devices.items ≤ number) (λ d. (number < length self.now.devices.items) × (d ≡ device_at self.now number)) }
+    {
+        self.devices.get(usize::from(number)).copied()
+    }
 }

@@ -1,53 +1,38 @@
-// Which targets are lawful for a run, and which tables of targets are volumes.
-ghost use Rattle.std.specs.Prelude.{◌≡◌, ℕ, ◌<◌, ◌≤◌, MatchBool};
+// Which targets are lawful for a run.
+ghost use Rattle.std.specs.Prelude.{◌<◌, ◌↔◌, IsTrue};
 ghost use Rattle.roster.specs.declared.target.Target.TheVariants.{Linear, Striped};
-ghost use Rattle.roster.specs.Rosters.{Sound, SetClear, AllClear};
-ghost use Rattle.roster.specs.Additions.{Fitting};
+ghost use Rattle.roster.specs.Rosters.{AllClear};
 ghost use Rattle.roster.specs.Judgements.{TargetJudged};
 
 use crate::area::Area;
 use crate::closed::ClosedRoster;
-use crate::entry::{Entries, SetEntry};
 use crate::refusal::RosterRefusal;
+use crate::stripe::Stripe;
 use crate::target::Target;
-
-// Whether no area of a set shares a sector with a run.
-fn set_clear(stripe: &SetEntry, run: Area) -> bool
-    requires fitting { Fitting stripe.now }
-    requires filled { run.from < run.to }
-    ensures { MatchBool result (SetClear stripe.now run) (SetClear stripe.now run → ⊥) }
-{
-    for j in 0..stripe.width {
-        if Area::of_column(stripe, j).meets(run) {
-            return false;
-        }
-    }
-    true
-}
-
-// Whether no area of a listed set shares a sector with a run.
-fn all_clear(entries: &Entries, run: Area) -> bool
-    requires sound { Sound entries.now }
-    requires filled { run.from < run.to }
-    ensures { MatchBool result (AllClear entries.now run) (AllClear entries.now run → ⊥) }
-{
-    for n in 0..entries.set_count {
-        if !set_clear(&entries.sets[n], run) {
-            return false;
-        }
-    }
-    true
-}
+use table::extent::Run;
 
 impl ClosedRoster {
+    // Whether no area of a listed set shares a sector with a run.
+    fn all_clear(&self, run: Area) -> bool
+        ensures { IsTrue result ↔ AllClear self.now.entries run }
+    {
+        let sets = self.entries.sets.as_slice();
+        for numbers in sets {
+            let listed = Stripe { numbers };
+            if !listed.is_clear(run) {
+                return false;
+            }
+        }
+        true
+    }
+
     // Judges a target for a run of so many sectors.
     pub(crate) fn judge_target(&self, target: Target, length: u64) -> Result<(), RosterRefusal>
         requires { 0 < length }
         ensures { TargetJudged self.now.entries target length result }
     {
         match target {
-            Target::Zero => Ok(()),
-            Target::Error => Ok(()),
+            Target::Zero | Target::Error => Ok(()),
             Target::Linear { device, sector } => self.judge_linear(device, sector, length),
             Target::Striped { set, offset } => self.judge_striped(set, offset, length),
         }
@@ -58,22 +43,20 @@ impl ClosedRoster {
         requires { 0 < length }
         ensures { TargetJudged self.now.entries (Linear device sector) length result }
     {
-        if device as usize >= self.entries.device_count {
-            return Err(RosterRefusal::NoDevice);
-        }
-        let size = self.entries.devices[device as usize].size;
-        if sector >= size {
+        let size = self.listed_device(device)?.size;
+        let run = Run {
+            start: sector,
+            length,
+        };
+        if !run.is_inside(size) {
             return Err(RosterRefusal::LeavesTarget);
         }
-        if length > size - sector {
-            return Err(RosterRefusal::LeavesTarget);
-        }
-        let run = Area {
+        let area = Area {
             device,
             from: sector,
             to: sector + length,
         };
-        if !all_clear(&self.entries, run) {
+        if !self.all_clear(area) {
             return Err(RosterRefusal::TouchesArea);
         }
         Ok(())
@@ -84,14 +67,12 @@ impl ClosedRoster {
         requires { 0 < length }
         ensures { TargetJudged self.now.entries (Striped set offset) length result }
     {
-        let Some(stripe) = self.stripe_set(set) else {
-            return Err(RosterRefusal::NoSet);
+        let size = self.listed_set(set)?.size();
+        let run = Run {
+            start: offset,
+            length,
         };
-        let size = stripe.size();
-        if offset >= size {
-            return Err(RosterRefusal::LeavesTarget);
-        }
-        if length > size - offset {
+        if !run.is_inside(size) {
             return Err(RosterRefusal::LeavesTarget);
         }
         Ok(())

@@ -11,6 +11,7 @@ pub mod open;
 pub mod place;
 pub mod refusal;
 mod resolving;
+pub mod roster;
 pub mod stripe;
 pub mod target;
 mod volume;

@@ -1,50 +1,29 @@
 // An open roster: devices and sets are added until it is closed.
 ghost use Rattle.std.specs.Prelude.{◌≡◌};
-ghost use Rattle.roster.specs.Rosters.{Room, FewDevices, FewSets, SoundDevices, NoTwins, ShapedSets, HousedSets, NoClash};
 ghost use Rattle.roster.specs.Places.{PlacesTell};
 ghost use Rattle.roster.specs.Additions.{AddsDevice, AddsSet, nothing};
 
-use crate::addition::{entry_of, judge_device, judge_set};
-use crate::closed::ClosedRoster;
-use crate::entry::{Column, Device, Entries, SetEntry};
+use crate::closed::{Closed, ClosedRoster};
+use crate::entry::{Column, Device, Entries};
 use crate::refusal::RosterRefusal;
+use crate::roster::Roster;
+use arrayvec::ArrayVec;
 
-#[derive(Drop)]
-pub struct OpenRoster {
-    entries: Entries,
-    ghost room: { Room entries },
-    ghost few: { FewDevices entries },
-    ghost fewer: { FewSets entries },
-    ghost sound: { SoundDevices entries },
-    ghost twins: { NoTwins entries },
-    ghost shaped: { ShapedSets entries },
-    ghost housed: { HousedSets entries },
-    ghost apart: { NoClash entries },
-}
+#[derive(Clone, Copy, Debug, PartialEq, Eq)]
+pub struct Open;
+
+pub type OpenRoster = Roster<Open>;
 
 impl OpenRoster {
     // A roster that lists nothing yet.
     pub fn new() -> OpenRoster
         ensures { result.entries ≡ nothing }
     {
-        let column = Column { device: 0, base: 0 };
-        let set = SetEntry {
-            width: 0,
-            chunk: 0,
-            rows: 0,
-            columns: [column; 8],
-        };
-        let device = Device {
-            major: 0,
-            minor: 0,
-            size: 0,
-        };
-        OpenRoster {
+        Roster {
+            state: Open,
             entries: Entries {
-                devices: [device; 32],
-                device_count: 0,
-                sets: [set; 16],
-                set_count: 0,
+                devices: ArrayVec::new(),
+                sets: ArrayVec::new(),
             },
         }
     }
@@ -54,10 +33,9 @@ impl OpenRoster {
         ensures { AddsDevice self.old.entries (record { major = major; minor = minor; size = size }) self.new.entries result }
     {
         let device = Device { major, minor, size };
-        judge_device(&self.entries, device)?;
-        let number = self.entries.device_count;
-        self.entries.devices[number] = device;
-        self.entries.device_count = number + 1;
+        self.judge_device(device)?;
+        let number = self.entries.devices.len();
+        self.entries.devices.push(device);
         Ok(number as u8)
     }
 
@@ -70,12 +48,10 @@ impl OpenRoster {
     ) -> Result<u8, RosterRefusal>
         ensures { AddsSet self.old.entries chunk rows columns.now self.new.entries result }
     {
-        judge_set(&self.entries, chunk, rows, columns)?;
-        let stripe = entry_of(chunk, rows, columns);
-        let place = self.entries.set_count;
-        self.entries.sets[place] = stripe;
-        self.entries.set_count = place + 1;
-        Ok(place as u8)
+        let entry = self.judge_set(chunk, rows, columns)?;
+        let number = self.entries.sets.len();
+        self.entries.sets.push(entry);
+        Ok(number as u8)
     }
 
     // Ends the adding; what is listed stays, and places tell targets.
@@ -83,7 +59,10 @@ impl OpenRoster {
         ensures listed { result.entries ≡ self.entries }
         ensures tells { PlacesTell result.entries }
     {
-        let OpenRoster { entries } = self;
-        ClosedRoster { entries }
+        let Roster { entries, .. } = self;
+        Roster {
+            state: Closed,
+            entries,
+        }
     }
 }

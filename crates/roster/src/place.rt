@@ -1,6 +1,6 @@
 // Where a target lies.
 
-#[derive(Clone, Copy)]
+#[derive(Clone, Copy, Debug, PartialEq, Eq)]
 pub enum Place {
     Zero,
     Error,

@@ -3,35 +3,30 @@ ghost use Rattle.std.specs.Prelude.{◌≡◌};
 ghost use Rattle.roster.specs.declared.refusal.RosterRefusal.TheVariants.{Table};
 ghost use Rattle.roster.specs.Refusals.{number_of, layer_of};
 
+pub use table::refusal::Layer;
 use table::refusal::Refusal;
+use thiserror::Error;
 
-#[derive(Clone, Copy, Debug)]
+#[derive(Clone, Copy, Debug, PartialEq, Eq, Error)]
 pub enum RosterRefusal {
-    // The table below says no.
+    #[error("{0}")]
     Table(Refusal),
-    // No such device is listed.
+    #[error("no such device is listed")]
     NoDevice,
-    // No such set is listed.
+    #[error("no such set is listed")]
     NoSet,
-    // The run leaves its device or set.
+    #[error("the run leaves its device or set")]
     LeavesTarget,
-    // A linear run touches an area.
+    #[error("a linear run touches an area")]
     TouchesArea,
-    // The roster is full.
+    #[error("the roster is full")]
     RosterFull,
-    // A device's numbers or size are out of range, or it is listed.
+    #[error("a device's numbers or size are out of range, or it is listed")]
     BadDevice,
-    // A set breaks a rule other than that of shared areas.
+    #[error("a set breaks a rule other than that of shared areas")]
     BadSet,
-    // Areas would share a sector.
+    #[error("areas would share a sector")]
     SharedArea,
-}
-
-// The part of the compiler that a refusal comes from.
-#[derive(Clone, Copy, Debug)]
-pub enum Layer {
-    Table,
-    Roster,
 }
 
 impl From<Refusal> for RosterRefusal {

@@ -1,42 +1,48 @@
 // Where targets lie under a closed roster.
-ghost use Rattle.std.specs.Prelude.{◌≡◌, ℕ, ◌<◌, ◌≤◌, MatchOption};
+ghost use Rattle.std.specs.Prelude.{◌≡◌, ◌<◌, ◌≤◌, length, MatchOption};
 ghost use Rattle.roster.specs.declared.target.Target.TheVariants.{Linear, Striped};
-ghost use Rattle.roster.specs.Rosters.{set_at, column_at};
-ghost use Rattle.roster.specs.Places.{SizedBy};
+ghost use Rattle.table.specs.Checks.{Answers, check, end};
+ghost use Rattle.roster.specs.Refusals.{number_of};
+ghost use Rattle.roster.specs.Rosters.{device_at, set_at};
+ghost use Rattle.roster.specs.Places.{SizedBy, HasSet, Below, place_of};
 ghost use Rattle.roster.specs.Judgements.{Resolves};
 
 use crate::closed::ClosedRoster;
-use crate::entry::{Entries, SetEntry};
+use crate::entry::Device;
 use crate::place::Place;
 use crate::refusal::RosterRefusal;
-use crate::stripe::StripeSet;
+use crate::stripe::{Stripe, StripeSet};
 use crate::target::Target;
-
-// The size of each column's device.
-fn column_sizes(entries: &Entries, stripe: &SetEntry) -> [u64; 8]
-    requires few { stripe.now.width ≤ 8 }
-    requires listed { (j : ℕ) → j < stripe.now.width → (column_at stripe.now j).device < 32 }
-    ensures { SizedBy entries.now stripe.now result }
-{
-    let mut sizes = [0; 8];
-    for j in 0..stripe.width {
-        let column = stripe.columns[j];
-        sizes[j] = entries.devices[column.device as usize].size;
-    }
-    sizes
-}
 
 impl ClosedRoster {
     // The stripe set with a number, if it is listed.
     pub fn stripe_set(&self, number: u8) -> Option<StripeSet>
-        ensures { MatchOption result (self.now.entries.set_count ≤ number) (λ s. (number < self.now.entries.set_count) × (s.numbers ≡ set_at self.now.entries number) × SizedBy self.now.entries s.numbers s.sizes) }
+        ensures { MatchOption result (length self.now.entries.sets.items ≤ number) (λ s. (number < length self.now.entries.sets.items) × (s.numbers ≡ set_at self.now.entries number) × SizedBy self.now.entries s.numbers s.sizes) }
     {
-        if number as usize >= self.entries.set_count {
-            return None;
-        }
-        let stripe = self.entries.sets[number as usize];
-        let sizes = column_sizes(&self.entries, &stripe);
-        StripeSet::new(stripe, sizes)
+        let numbers = *self.entries.sets.get(usize::from(number))?;
+        self.entries.judged(numbers)
+    }
+
+    // The device with a number, or the refusal of a number that is not listed.
+    pub(crate) fn listed_device(&self, number: u8) -> Result<Device, RosterRefusal>
+        ensures { Answers number_of (check 5 (number < length self.now.entries.devices.items) end) (Unit {0}) (λ d. d ≡ device_at self.now.entries number) result }
+    {
+        self.entries.device(number).ok_or(RosterRefusal::NoDevice)
+    }
+
+    // The same of a stripe set.
+    pub(crate) fn listed_set(&self, number: u8) -> Result<StripeSet, RosterRefusal>
+        ensures { Answers number_of (check 6 (number < length self.now.entries.sets.items) end) (Unit {0}) (λ s. s.numbers ≡ set_at self.now.entries number) result }
+    {
+        self.stripe_set(number).ok_or(RosterRefusal::NoSet)
+    }
+
+    // Where an offset of a listed set lies, if the set has it. What is listed keeps its rules, so it is not judged again.
+    pub fn stripe_place(&self, set: u8, offset: u64) -> Option<Place>
+        ensures { MatchOption result (HasSet self.now.entries (Striped set offset) × Below self.now.entries (Striped set offset) → ⊥) (λ p. HasSet self.now.entries (Striped set offset) × Below self.now.entries (Striped set offset) × (p ≡ place_of self.now.entries (Striped set offset))) }
+    {
+        let numbers = self.entries.sets.get(usize::from(set))?;
+        Stripe { numbers }.place(offset)
     }
 
     // Where a target lies.
@@ -50,17 +56,12 @@ impl ClosedRoster {
             Target::Striped { set, offset } => self.resolve_striped(set, offset),
         }
     }
-}
 
-impl ClosedRoster {
     // Where a sector of a device lies.
     fn resolve_linear(&self, device: u8, sector: u64) -> Result<Place, RosterRefusal>
         ensures { Resolves self.now.entries (Linear device sector) result }
     {
-        if device as usize >= self.entries.device_count {
-            return Err(RosterRefusal::NoDevice);
-        }
-        if sector >= self.entries.devices[device as usize].size {
+        if sector >= self.listed_device(device)?.size {
             return Err(RosterRefusal::LeavesTarget);
         }
         Ok(Place::At { device, sector })
@@ -70,12 +71,7 @@ impl ClosedRoster {
     fn resolve_striped(&self, set: u8, offset: u64) -> Result<Place, RosterRefusal>
         ensures { Resolves self.now.entries (Striped set offset) result }
     {
-        let Some(stripe) = self.stripe_set(set) else {
-            return Err(RosterRefusal::NoSet);
-        };
-        match stripe.place(offset) {
-            Some(place) => Ok(place),
-            None => Err(RosterRefusal::LeavesTarget),
-        }
+        let stripe = self.listed_set(set)?;
+        stripe.place(offset).ok_or(RosterRefusal::LeavesTarget)
     }
 }

@@ -1,18 +1,21 @@
 -- A value from a sector on: how it goes on from what is before, and what an append leaves.
-use Rattle.std.proofs.Common.{◌≡◌, ℕ, ◌+◌, ◌-◌, ◌^◌, ◌<◌, ◌≤◌, Bool, true, false, ltb, List, ◌++◌, length, take, Some, None, Option, sym, refl, arith}
-use Rattle.std.proofs.lemmas.List.{length-append, length-take-le}
+use Rattle.std.proofs.Common.{◌≡◌, ℕ, ◌+◌, ◌-◌, ◌^◌, ◌<◌, ◌≤◌, Bool, true, ltb, List, ◌++◌, length, take, Some, None, Option, OnOk, IfErr, Result, refl, arith}
+use Rattle.std.proofs.lemmas.List.{append-nil, drop_all, length-take-le}
 use Rattle.std.proofs.lemmas.Bool.{cond-true, cond-false, lt-ltb, le-ltb}
 use Rattle.std.specs.Option.{option_to_list}
 use Rattle.table.specs.declared.extent.Head.{Head}
 use Rattle.table.specs.declared.extent.Slot.{Slot}
+use Rattle.table.specs.declared.refusal.Refusal.{Refusal}
+use Rattle.table.specs.declared.refusal.Refusal.TheVariants.{NoRoom}
+use Rattle.table.specs.declared.row.Plan.{Plan}
 use Rattle.table.specs.Kinds.{Laws}
-use Rattle.table.specs.Extents.{value_at, Normal}
-use Rattle.table.specs.Maps.{NoneFits, appended}
-use Rattle.table.specs.Calls.{map_of, Leaves}
-use Rattle.table.specs.Steps.{GoesOn, Next, Splices}
-use Rattle.table.proofs.Alike.{goes_on, via, back, apart}
+use Rattle.table.specs.Extents.{value_at, at, Normal}
+use Rattle.table.specs.Maps.{appended}
+use Rattle.table.specs.Calls.{map_of, Appends}
+use Rattle.table.specs.Steps.{Next, planned, Splices}
+use Rattle.table.proofs.Alike.{goes_on, back}
 use Rattle.table.proofs.Pieces.{Part, Flat, part_like}
-use Rattle.table.proofs.Tables.{part_of, part_next, leaves_at, none_fits_at}
+use Rattle.table.proofs.Tables.{part_of, part_next, spliced_answers}
 
 module _ {V : Type 0} {shift : V → ℕ → V} {same : V → V → Bool} {clear : V → Bool} (laws : Laws shift same clear) where
   -- another map that has the same value before p
@@ -21,14 +24,10 @@ module _ {V : Type 0} {shift : V → ℕ → V} {same : V → V → Bool} {clear
   next_like m w p x (Some s) e next = (next.0, next.1, λ up. rw (e up) (next.2 up))
 
   -- whether the extent before p goes on with x there, as the extent itself tells
-  last_tells : (s : Slot V) (m : ℕ → V) (p : ℕ) → 0 < p → s.start ≤ p - 1 → value_at shift s (p - 1) ≡ m (p - 1) → same (shift (m (p - 1)) 1) (value_at shift s p) ≡ true
+  pub last_tells : (s : Slot V) (m : ℕ → V) (p : ℕ) → 0 < p → s.start ≤ p - 1 → value_at shift s (p - 1) ≡ m (p - 1) → same (shift (m (p - 1)) 1) (value_at shift s p) ≡ true
   last_tells s m p up le e =
       let one : p - (p - 1) ≡ 1 = omega arith in
       rw (e, one) at (goes_on laws s (p - 1) p le (omega arith))
-
-  pub goes_on_tells : (s : Slot V) (m : ℕ → V) (p : ℕ) (x : V) (r : Bool) → 0 < p → s.start ≤ p - 1 → value_at shift s (p - 1) ≡ m (p - 1) → r ≡ same (value_at shift s p) x → GoesOn shift same m p x r
-  goes_on_tells s m p x true up le e is = (up, via laws (last_tells s m p up le e) (sym is))
-  goes_on_tells s m p x false up le e is = λ _. apart laws (back laws (last_tells s m p up le e)) (laws.same_self x) (sym is)
 
   -- a run of x from p to q
   module _ (w : ℕ → V) (p q : ℕ) (x : V) (is : (i : ℕ) → p ≤ i → i < q → w i ≡ shift x (i - p)) where
@@ -67,17 +66,12 @@ module _ {V : Type 0} {shift : V → ℕ → V} {same : V → V → Bool} {clear
       new : (i : ℕ) → n ≤ i → i < n + l → w i ≡ shift v (i - n)
       new i le lt = cond-false (ltb i h.length) (m i) (shift v (i - h.length)) (le-ltb i h.length le)
 
-  module _ (h : Head) (xs : List (Slot V)) (l : ℕ) (v : V) (o : Option (Slot V)) (normal : Normal shift same h xs) (more : 0 < l) (next : (d : V) → Next shift same (map_of shift h xs d) h.length v o) where
-    many : length (take h.count xs ++ option_to_list o) ≡ h.count + length (option_to_list o)
-    many = rw (length-append (take h.count xs) (option_to_list o), length-take-le h.count xs normal.room) refl
-
-    pub append_full : length xs < h.count + length (option_to_list o) → NoneFits shift same (appended shift (map_of shift h xs) h.length v) (h.length + l) (length xs)
-    append_full full =
-        none_fits_at laws (appended shift (map_of shift h xs) h.length v) (h.length + l) v (take h.count xs ++ option_to_list o) (length xs)
-        (append_parts h xs l v o normal more next) (rw many full)
-
-    pub append_leaves : (xs' : List (Slot V)) (count' : ℕ) → h.length + l ≤ 2 ^ 40 → Splices xs (take h.count xs ++ option_to_list o) xs' count' → Leaves shift same (appended shift (map_of shift h xs) h.length v) (h.length + l) xs (record { count = count'; length = h.length + l }) xs'
-    append_leaves xs' count' bounded pushed =
-        leaves_at laws (appended shift (map_of shift h xs) h.length v) (h.length + l) v xs xs' (take h.count xs ++ option_to_list o)
-        (record { count = count'; length = h.length + l }) refl bounded pushed.room pushed.front pushed.kept
-        (append_parts h xs l v o normal more next)
+  -- an append, by what its splice answers
+  pub append_answers : (h : Head) (xs ys : List (Slot V)) (n l : ℕ) (v : V) (o : Option (Slot V)) (h' : Head) (xs' : List (Slot V)) (r : Result (Unit {0}) Refusal) → ys ≡ take h.count xs → n ≡ h.length → Normal shift same h xs → 0 < l → h.length + l ≤ 2 ^ 40 → ((d : V) → Next shift same (at shift ys d) n v o) → length xs' ≡ length xs →
+      let p : Plan V = record { front = h.count; middle = o; tail = None; back = h.count; length = n + l } in
+      OnOk r ((h'.length ≡ n + l) × Splices xs (planned xs h.count p) xs' h'.count) → IfErr r (λ e. (e ≡ NoRoom) × (h' ≡ h) × (xs' ≡ xs) × (length xs < length (planned xs h.count p))) → Appends shift same h xs l v h' xs' r
+  append_answers h xs ys n l v o h' xs' r slots long normal more bounded next same_length done full =
+      let p : Plan V = record { front = h.count; middle = o; tail = None; back = h.count; length = h.length + l } in
+      let pushed : planned xs h.count p ≡ take h.count xs ++ option_to_list o = rw (drop_all h.count (take h.count xs) (omega (arith, length-take-le h.count xs normal.room)), append-nil (option_to_list o)) refl in
+      spliced_answers laws (appended shift (map_of shift h xs) h.length v) (h.length + l) v xs xs' (planned xs h.count p) h h' _ _ _ 4 refl r
+      (λ d. rw pushed (append_parts h xs l v o normal more (rw (slots, long) at next) d)) bounded same_length (rw long at done) full more normal bounded

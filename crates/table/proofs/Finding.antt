@@ -1,6 +1,6 @@
 -- The extent that holds a sector, and the front of a table up to one.
-use Rattle.std.proofs.Common.{◌≡◌, ℕ, suc, ◌+◌, ◌-◌, ◌^◌, ◌<◌, ◌≤◌, Bool, List, [], ◌∷◌, length, get_or, take, sym, refl, ap, ◌∙◌, subst, inl, inr, arith}
-use Rattle.std.proofs.lemmas.List.{length-take-le, get_or-take, take-take}
+use Rattle.std.proofs.Common.{◌≡◌, ℕ, suc, ◌+◌, ◌-◌, ◌^◌, ◌<◌, ◌≤◌, Bool, List, [], ◌∷◌, length, get_or, take, sym, refl, ◌∙◌, subst, inl, inr, arith}
+use Rattle.std.proofs.lemmas.List.{length-take-le, take-take}
 use Rattle.std.proofs.lemmas.Bool.{cases_lt}
 use Rattle.table.specs.declared.extent.Head.{Head}
 use Rattle.table.specs.declared.extent.Slot.{Slot}
@@ -48,25 +48,6 @@ module _ {V : Type 0} (shift : V → ℕ → V) where
             let there = found_from ss s i (omega arith) x (subst (λ (j : ℕ). x ≡ get_or (s ∷ ss) j x) at_k e) in
             (there.0, λ d. there.1),
       )
-
-  -- the same of the counted slots
-  pub found_counted : (same : V → V → Bool) (h : Head) (xs : List (Slot V)) (i k : ℕ) → Normal shift same h xs → i < h.length → k ≡ before (i + 1) (take h.count xs) → (0 < k) × (k ≤ h.count) × ((x : Slot V) → x ≡ get_or xs (k - 1) x → (x.start ≤ i) × ((d : V) → value_at shift x i ≡ map_of shift h xs d i))
-  found_counted same h xs i k normal lt is =
-      let ys = take h.count xs in
-      let there = found ys h.length i normal.covers lt in
-      let many : length ys ≡ h.count = length-take-le h.count xs normal.room in
-      let le = before_le (i + 1) ys in (
-        omega (arith, there.0),
-        omega arith,
-        λ x e.
-            there.1 x (e ∙ sym (get_or-take h.count xs (k - 1) x (omega (arith, there.0))) ∙ ap (λ (j : ℕ). get_or ys (j - 1) x) is),
-      )
-
-  -- and its place is in the row
-  pub found_within : (same : V → V → Bool) (h : Head) (xs : List (Slot V)) (i k : ℕ) → Normal shift same h xs → i < h.length → k ≡ before (i + 1) (take h.count xs) → k - 1 < length xs
-  found_within same h xs i k normal lt is =
-      let there = found_counted same h xs i k normal lt is in
-      omega (arith, there.0, there.1, normal.room)
 
 module _ {V : Type 0} {shift : V → ℕ → V} {same : V → V → Bool} {clear : V → Bool} (laws : Laws shift same clear) where
   -- the counted slots up to n

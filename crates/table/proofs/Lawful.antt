@@ -1,30 +1,19 @@
 -- The laws of tables, from the contracts of the calls and the laws of the kind.
-use Rattle.std.proofs.Common.{◌≡◌, ℕ, ◌+◌, ◌-◌, ◌<◌, ◌≤◌, Bool, true, false, cond, ltb, ◌⊎◌, List, [], ◌∷◌, length, take, is_ok, Ok, Err, Result, sym, refl, ap, ◌∙◌, inl, inr, arith}
+use Rattle.std.proofs.Common.{◌≡◌, ℕ, ◌+◌, ◌-◌, ◌<◌, ◌≤◌, Bool, true, false, cond, ltb, ◌⊎◌, List, [], ◌∷◌, length, take, Ok, Err, Result, is_ok, sym, refl, ap, ◌∙◌, inl, inr, arith}
 use Rattle.std.proofs.lemmas.List.{length-take-le}
-use Rattle.std.proofs.lemmas.Bool.{cases_lt, cond-true, cond-false, lt-ltb, le-ltb, true≢false}
+use Rattle.std.proofs.lemmas.Bool.{cases_lt, cond-true, cond-false, lt-ltb, le-ltb}
 use Rattle.table.specs.declared.extent.Head.{Head}
 use Rattle.table.specs.declared.extent.Run.{Run}
 use Rattle.table.specs.declared.extent.Slot.{Slot}
 use Rattle.table.specs.declared.refusal.Refusal.{Refusal}
-use Rattle.table.specs.declared.refusal.Refusal.TheVariants.{EmptyLength, BrokenTable, Outside, PastLimit, LengthsDiffer, NoRoom}
 use Rattle.table.specs.Kinds.{Laws}
 use Rattle.table.specs.Extents.{at, Covers, Distinct, Normal}
 use Rattle.table.specs.Maps.{Map, Agree, appended, assigned, over}
-use Rattle.table.specs.Refusals.{Answers}
 use Rattle.table.specs.Calls.{map_of, Leaves, Assigns}
 use Rattle.table.specs.Laws.{SameSlots, In, Call, Mapped, changed, after, fresh, fresh_head, Does, Ran, Holds, Least, EqualMaps, Histories, Commute}
 use Rattle.table.specs.Laws.Call.{append, assign, cut, overlay}
 use Rattle.table.proofs.Alike.{via, back}
 use Rattle.table.proofs.Unique.{least, equal_maps, same_maps}
-
--- a call that was refused has kept the table
-refusal_keeps : {A : Type 0} (filled sound inside bounded level full kept : Type 0) (done : A → Type 0) (e : Refusal) → Answers filled sound inside bounded level full kept done (Err e) → kept
-refusal_keeps filled sound inside bounded level full kept done EmptyLength a = a.0
-refusal_keeps filled sound inside bounded level full kept done BrokenTable a = a.0
-refusal_keeps filled sound inside bounded level full kept done Outside a = a.0
-refusal_keeps filled sound inside bounded level full kept done PastLimit a = a.0
-refusal_keeps filled sound inside bounded level full kept done LengthsDiffer a = a.0
-refusal_keeps filled sound inside bounded level full kept done NoRoom a = a.0
 
 module _ {V : Type 0} {shift : V → ℕ → V} {same : V → V → Bool} {clear : V → Bool} (laws : Laws shift same clear) where
   least_list : (xs ys : List (Slot V)) (n : ℕ) → Covers xs n → Distinct shift same xs → Covers ys n → Agree same (at shift xs) (at shift ys) n → length xs ≤ length ys
@@ -86,32 +75,30 @@ module _ {V : Type 0} {shift : V → ℕ → V} {same : V → V → Bool} {clear
       holds_left (changed shift clear (assign run v) m) (assigned shift (map_of shift h xs) run.start run.length v) h.length xs h' xs' holds.len
       (assigned_agree m.value (map_of shift h xs) run.start run.length h.length v holds.map) does.0
   holds_done (cut n) m h xs h' xs' u holds does =
-      holds_left (changed shift clear (cut n) m) (map_of shift h xs) n xs h' xs' refl (λ d i lt. holds.map d i (let le : n ≤ h.length = does.3 in omega arith)) does.0
+      holds_left (changed shift clear (cut n) m) (map_of shift h xs) n xs h' xs' refl (λ d i lt. holds.map d i (let le : n ≤ h.length = does.1.1.0 in omega arith)) does.0
   holds_done (overlay t tops b bases) m h xs h' xs' u holds does =
       holds_left (changed shift clear (overlay t tops b bases) m) (over clear (map_of shift t tops) (map_of shift b bases)) t.length xs h' xs' refl
       (λ d i lt. laws.same_self (over clear (map_of shift t tops) (map_of shift b bases) d i)) does.0
 
   kept_done : (c : Call V) (h : Head) (xs : List (Slot V)) (h' : Head) (xs' : List (Slot V)) (e : Refusal) → Does shift same clear c h xs h' xs' (Err e) → (h' ≡ h) × (xs' ≡ xs)
-  kept_done (append l v) h xs h' xs' e does = refusal_keeps {A = Unit {0}} _ _ _ _ _ _ _ (λ _. Leaves shift same (appended shift (map_of shift h xs) h.length v) (h.length + l) xs h' xs') e does
-  kept_done (assign run v) h xs h' xs' e does = refusal_keeps {A = Unit {0}} _ _ _ _ _ _ _ (λ _. Leaves shift same (assigned shift (map_of shift h xs) run.start run.length v) h.length xs h' xs') e does
-  kept_done (cut n) h xs h' xs' e does = refusal_keeps {A = Unit {0}} _ _ _ _ _ _ _ (λ _. Leaves shift same (map_of shift h xs) n xs h' xs') e does
-  kept_done (overlay t tops b bases) h xs h' xs' e does = refusal_keeps {A = Unit {0}} _ _ _ _ _ _ _ (λ _. Leaves shift same (over clear (map_of shift t tops) (map_of shift b bases)) t.length xs h' xs') e does
+  kept_done (append l v) h xs h' xs' e does = does.0
+  kept_done (assign run v) h xs h' xs' e does = does.0
+  kept_done (cut n) h xs h' xs' e does = does.0
+  kept_done (overlay t tops b bases) h xs h' xs' e does = does.0
 
   holds_kept : (m : Mapped V) (h h' : Head) (xs xs' : List (Slot V)) → (h' ≡ h) × (xs' ≡ xs) → Holds shift same clear m h xs → Holds shift same clear m h' xs'
   holds_kept m h h' xs xs' kept holds = rw (kept.0, kept.1) holds
 
-  -- one call, accepted or not
-  holds_call : (c : Call V) (ok : Bool) (m : Mapped V) (h : Head) (xs : List (Slot V)) (h' : Head) (xs' : List (Slot V)) (r : Result (Unit {0}) Refusal) → Holds shift same clear m h xs → Does shift same clear c h xs h' xs' r → is_ok r ≡ ok → Holds shift same clear (cond ok (changed shift clear c m) m) h' xs'
-  holds_call c true m h xs h' xs' (Ok u) holds does e = holds_done c m h xs h' xs' u holds does
-  holds_call c true m h xs h' xs' (Err f) holds does e = absurd (true≢false (sym e))
-  holds_call c false m h xs h' xs' (Ok u) holds does e = absurd (true≢false e)
-  holds_call c false m h xs h' xs' (Err f) holds does e = holds_kept m h h' xs xs' (kept_done c h xs h' xs' f does) holds
+  -- one call, with its answer
+  holds_call : (c : Call V) (answer : Result (Unit {0}) Refusal) (m : Mapped V) (h : Head) (xs : List (Slot V)) (h' : Head) (xs' : List (Slot V)) → Holds shift same clear m h xs → Does shift same clear c h xs h' xs' answer → Holds shift same clear (cond (is_ok answer) (changed shift clear c m) m) h' xs'
+  holds_call c (Ok u) m h xs h' xs' holds does = holds_done c m h xs h' xs' u holds does
+  holds_call c (Err e) m h xs h' xs' holds does = holds_kept m h h' xs xs' (kept_done c h xs h' xs' e does) holds
 
-  holds_after : (cs : List (Call V × Bool)) (m : Mapped V) (h : Head) (xs : List (Slot V)) (h' : Head) (xs' : List (Slot V)) → Holds shift same clear m h xs → Ran shift same clear cs h xs h' xs' → Holds shift same clear (after shift clear cs m) h' xs'
+  holds_after : (cs : List (Call V × Result (Unit {0}) Refusal)) (m : Mapped V) (h : Head) (xs : List (Slot V)) (h' : Head) (xs' : List (Slot V)) → Holds shift same clear m h xs → Ran shift same clear cs h xs h' xs' → Holds shift same clear (after shift clear cs m) h' xs'
   holds_after [] m h xs h' xs' holds ran = holds_kept m h h' xs xs' ran holds
   holds_after (c ∷ cs) m h xs h' xs' holds ran =
-      holds_after cs (cond c.1 (changed shift clear c.0 m) m) ran.0 ran.1 h' xs'
-      (holds_call c.0 c.1 m h xs ran.0 ran.1 ran.2 holds ran.3 ran.4) ran.5
+      holds_after cs (cond (is_ok c.1) (changed shift clear c.0 m) m) ran.0 ran.1 h' xs'
+      (holds_call c.0 c.1 m h xs ran.0 ran.1 holds ran.2) ran.3
 
   fresh_holds : (xs : List (Slot V)) → Holds shift same clear fresh fresh_head xs
   fresh_holds xs =

@@ -1,18 +1,28 @@
 -- From tables to pieces and back: what a call has to show of the list that it leaves.
-use Rattle.std.proofs.Common.{◌≡◌, ℕ, ◌-◌, ◌^◌, ◌<◌, ◌≤◌, Bool, true, List, [], ◌∷◌, ◌++◌, length, take, drop, Some, None, Option, sym, refl, subst, inl, inr, arith}
-use Rattle.std.proofs.lemmas.List.{append-nil}
+use Rattle.std.proofs.Common.{◌≡◌, ℕ, ◌-◌, ◌^◌, ◌<◌, ◌≤◌, Bool, true, false, ◌==◌, List, [], ◌∷◌, ◌++◌, length, take, drop, Some, None, Option, Ok, Err, Result, OnOk, IfErr, sym, refl, subst, inl, inr, arith}
+use Rattle.std.proofs.lemmas.List.{append-nil, length-take-le}
 use Rattle.std.proofs.lemmas.Bool.{cases_lt}
 use Rattle.std.specs.Option.{option_to_list}
 use Rattle.table.specs.declared.extent.Head.{Head}
 use Rattle.table.specs.declared.extent.Slot.{Slot}
 use Rattle.table.specs.Kinds.{Laws}
 use Rattle.table.specs.Extents.{at, Covers, Distinct}
-use Rattle.table.specs.Maps.{Map, NoneFits}
-use Rattle.table.specs.Calls.{Leaves}
-use Rattle.table.specs.Steps.{Next}
+use Rattle.table.specs.Maps.{Map, Fits}
+use Rattle.table.specs.Checks.{Answers, check, end}
+use Rattle.table.specs.Refusals.{number_of}
+use Rattle.table.specs.declared.refusal.Refusal.{Refusal}
+use Rattle.table.specs.declared.refusal.Refusal.TheVariants.{NoRoom}
+use Rattle.table.specs.Calls.{Kept, Leaves}
+use Rattle.table.specs.Steps.{Next, Splices}
 use Rattle.table.proofs.Alike.{via, back, apart}
 use Rattle.table.proofs.Unique.{least}
 use Rattle.table.proofs.Pieces.{Part, Flat, part_from, part_append, part_one, part_on, normal_from}
+
+-- what a call leaves shows that it fits
+pub fits_of : {V : Type 0} {shift : V → ℕ → V} {same : V → V → Bool} (m : Map V) (n : ℕ) (xs xs' : List (Slot V)) (h' : Head) → Leaves shift same m n xs h' xs' → length xs' ≡ length xs → Fits shift same m n (length xs)
+fits_of m n xs xs' h' left long =
+    let many = length-take-le h'.count xs' left.normal.room in
+    record { list = take h'.count xs'; writes = (rw left.len at left.normal.covers, left.map); few = omega (arith, left.normal.room) }
 
 module _ {V : Type 0} {shift : V → ℕ → V} {same : V → V → Bool} {clear : V → Bool} (laws : Laws shift same clear) where
   -- a normal list is a part of its own map
@@ -78,5 +88,15 @@ module _ {V : Type 0} {shift : V → ℕ → V} {same : V → V → Bool} {clear
     leaves_at v xs xs' zs h' len bounded room is kept parts =
         leaves xs xs' zs h' len bounded room is kept (covers_of (m v) zs n (parts v)) (distinct_of (m v) zs n (parts v)) parts
 
-    pub none_fits_at : (v : V) (zs : List (Slot V)) (row : ℕ) → ((d : V) → Part shift same (m d) zs 0 n) → row < length zs → NoneFits shift same m n row
-    none_fits_at v zs row parts more ys writes = none_fits (m v) zs v n row (parts v) more ys writes.0 (writes.1 v)
+    pub none_fits_at : (v : V) (zs : List (Slot V)) (row : ℕ) → ((d : V) → Part shift same (m d) zs 0 n) → row < length zs → Fits shift same m n row → ⊥
+    none_fits_at v zs row parts more fits =
+        let longer = none_fits (m v) zs v n row (parts v) more fits.list fits.writes.0 (fits.writes.1 v) in
+        omega (arith, longer, fits.few)
+
+    -- what a splice answers whose slots are a part of the map, behind three checks that were passed
+    pub spliced_answers : (v : V) (xs xs' zs : List (Slot V)) (h h' : Head) (A B C : Type 0) (k : ℕ) → (11 == k) ≡ false → (r : Result (Unit {0}) Refusal) → ((d : V) → Part shift same (m d) zs 0 n) → n ≤ 2 ^ 40 → length xs' ≡ length xs → OnOk r ((h'.length ≡ n) × Splices xs zs xs' h'.count) → IfErr r (λ e. (e ≡ NoRoom) × (h' ≡ h) × (xs' ≡ xs) × (length xs < length zs)) → A → B → C → Answers number_of (check 1 A (check 2 B (check k C (check 11 (Fits shift same m n (length xs)) end)))) (Kept shift same h xs h' xs') (λ _. Leaves shift same m n xs h' xs') r
+    spliced_answers v xs xs' zs h h' A B C k other (Ok u) parts bounded long done full a b c =
+        let left = leaves_at v xs xs' zs h' done.0 bounded done.1.room done.1.front done.1.kept parts in
+        (left, (a, (b, (c, (fits_of m n xs xs' h' left long, tt)))))
+    spliced_answers v xs xs' zs h h' A B C k other (Err e) parts bounded long done full a b c =
+        rw (full.0, other) ((full.1, full.2), (a, (b, (c, none_fits_at v zs (length xs) parts full.3))))

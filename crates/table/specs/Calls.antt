@@ -5,8 +5,9 @@ use Rattle.table.specs.declared.extent.Slot.{Slot}
 use Rattle.table.specs.declared.extent.Run.{Run}
 use Rattle.table.specs.declared.refusal.Refusal.{Refusal}
 use Rattle.table.specs.Extents.{at, Normal}
-use Rattle.table.specs.Maps.{Map, Agree, NoneFits, appended, assigned, over}
-use Rattle.table.specs.Refusals.{Answers}
+use Rattle.table.specs.Maps.{Map, Agree, Fits, appended, assigned, over}
+use Rattle.table.specs.Checks.{Answers, check, end}
+use Rattle.table.specs.Refusals.{number_of}
 
 module _ {V : Type 0} (shift : V → ℕ → V) where
   -- the map of a table
@@ -29,30 +30,30 @@ module _ {V : Type 0} (shift : V → ℕ → V) (same : V → V → Bool) where
   Appends h xs l v h' xs' r =
       let m : Map V = appended shift (map_of shift h xs) h.length v in
       let n : ℕ = h.length + l in
-      Answers (0 < l) (Normal shift same h xs) (Unit {0}) (n ≤ 2 ^ 40) (Unit {0}) (NoneFits shift same m n (length xs))
+      Answers number_of (check 1 (0 < l) (check 2 (Normal shift same h xs) (check 4 (n ≤ 2 ^ 40) (check 11 (Fits shift same m n (length xs)) end))))
       (Kept h xs h' xs') (λ _. Leaves m n xs h' xs') r
 
   abbrev pub Assigns : Head → List (Slot V) → Run → V → Head → List (Slot V) → Result (Unit {0}) Refusal → Type 0
   Assigns h xs run v h' xs' r =
       let m : Map V = assigned shift (map_of shift h xs) run.start run.length v in
       let n : ℕ = h.length in
-      Answers (0 < run.length) (Normal shift same h xs) (run.start + run.length ≤ n) (Unit {0}) (Unit {0})
-      (NoneFits shift same m n (length xs)) (Kept h xs h' xs') (λ _. Leaves m n xs h' xs') r
+      Answers number_of (check 1 (0 < run.length) (check 2 (Normal shift same h xs) (check 3 (run.start + run.length ≤ n) (check 11 (Fits shift same m n (length xs)) end))))
+      (Kept h xs h' xs') (λ _. Leaves m n xs h' xs') r
 
   abbrev pub Cuts : Head → List (Slot V) → ℕ → Head → List (Slot V) → Result (Unit {0}) Refusal → Type 0
   Cuts h xs n h' xs' r =
       let m : Map V = map_of shift h xs in
-      Answers (Unit {0}) (Normal shift same h xs) (n ≤ h.length) (Unit {0}) (Unit {0})
-      ⊥ (Kept h xs h' xs') (λ _. Leaves m n xs h' xs') r
+      Answers number_of (check 2 (Normal shift same h xs) (check 3 (n ≤ h.length) end))
+      (Kept h xs h' xs') (λ _. Leaves m n xs h' xs') r
 
   abbrev pub Looks : Head → List (Slot V) → ℕ → Result V Refusal → Type 0
   Looks h xs i r =
-      Answers (Unit {0}) (Normal shift same h xs) (i < h.length) (Unit {0}) (Unit {0})
-      ⊥ (Unit {0}) (λ v. (d : V) → v ≡ map_of shift h xs d i) r
+      Answers number_of (check 2 (Normal shift same h xs) (check 3 (i < h.length) end))
+      (Unit {0}) (λ v. (d : V) → v ≡ map_of shift h xs d i) r
 
   abbrev pub Overlays : (V → Bool) → Head → List (Slot V) → Head → List (Slot V) → Head → List (Slot V) → Head → List (Slot V) → Result (Unit {0}) Refusal → Type 0
   Overlays clear t tops b bases h xs h' xs' r =
       let m : Map V = over clear (map_of shift t tops) (map_of shift b bases) in
       let n : ℕ = t.length in
-      Answers (Unit {0}) (Normal shift same t tops × Normal shift same b bases) (Unit {0}) (Unit {0}) (t.length ≡ b.length)
-      (NoneFits shift same m n (length xs)) (Kept h xs h' xs') (λ _. Leaves m n xs h' xs') r
+      Answers number_of (check 2 (Normal shift same t tops × Normal shift same b bases) (check 9 (t.length ≡ b.length) (check 11 (Fits shift same m n (length xs)) end)))
+      (Kept h xs h' xs') (λ _. Leaves m n xs h' xs') r

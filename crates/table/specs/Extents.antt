@@ -1,5 +1,6 @@
 -- What the sectors of a row of slots hold, and when a row is normal.
 use Rattle.std.specs.Prelude.{◌≡◌, ℕ, suc, ◌-◌, ◌^◌, ◌<◌, ◌≤◌, Bool, false, cond, List, [], ◌∷◌, length, take, nat_lt}
+use Rattle.std.specs.Coded.{×_prop, Unit-prop, le_prop, Coded-set, coded_ℕ, coded_bool}
 use Rattle.table.specs.declared.extent.Head.{Head}
 use Rattle.table.specs.declared.extent.Slot.{Slot}
 
@@ -17,6 +18,11 @@ module _ {V : Type 0} (shift : V → ℕ → V) where
   abbrev pub at : List (Slot V) → V → ℕ → V
   at [] d i = d
   at (s ∷ ss) d i = value_from s ss i
+
+-- where the extent before these slots ends, in a table of n sectors
+abbrev pub next : {V : Type 0} → List (Slot V) → ℕ → ℕ
+next [] n = n
+next (t ∷ ts) n = t.start
 
 -- how many slots at the front start below a sector
 abbrev pub before : {V : Type 0} → ℕ → List (Slot V) → ℕ
@@ -49,3 +55,22 @@ module _ {V : Type 0} (shift : V → ℕ → V) (same : V → V → Bool) where
     pub bounded : h.length ≤ 2 ^ 40
     pub covers : Covers (take h.count xs) h.length
     pub distinct : Distinct (take h.count xs)
+
+-- each of these facts has one proof at most, so that a struct can hold it
+module _ {V : Type 0} where
+  Climbs-prop : (s : Slot V) (ss : List (Slot V)) (n : ℕ) → IsProp (Climbs s ss n)
+  Climbs-prop s [] n = le_prop
+  Climbs-prop s (t ∷ ts) n = ×_prop le_prop (Climbs-prop t ts n)
+
+  pub Covers-prop : (xs : List (Slot V)) (n : ℕ) → IsProp (Covers xs n)
+  Covers-prop [] n = Coded-set coded_ℕ n 0
+  Covers-prop (s ∷ ss) n = ×_prop (Coded-set coded_ℕ s.start 0) (Climbs-prop s ss n)
+
+module _ {V : Type 0} (shift : V → ℕ → V) (same : V → V → Bool) where
+  Breaks-prop : (s : Slot V) (ss : List (Slot V)) → IsProp (Breaks shift same s ss)
+  Breaks-prop s [] = Unit-prop
+  Breaks-prop s (t ∷ ts) = ×_prop (Coded-set coded_bool (same (value_at shift s t.start) t.value) false) (Breaks-prop t ts)
+
+  pub Distinct-prop : (xs : List (Slot V)) → IsProp (Distinct shift same xs)
+  Distinct-prop [] = Unit-prop
+  Distinct-prop (s ∷ ss) = Breaks-prop s ss

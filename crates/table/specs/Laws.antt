@@ -1,5 +1,5 @@
 -- The laws of tables, for every kind of value.
-use Rattle.std.specs.Prelude.{◌≡◌, ℕ, ◌+◌, ◌<◌, ◌≤◌, Bool, true, cond, List, [], ◌∷◌, length, take, is_ok, Ok, Result}
+use Rattle.std.specs.Prelude.{◌≡◌, ℕ, ◌+◌, ◌<◌, ◌≤◌, Bool, true, List, [], ◌∷◌, length, take, is_ok, if◌then◌else◌, Ok, Result}
 use Rattle.table.specs.declared.extent.Head.{Head}
 use Rattle.table.specs.declared.extent.Run.{Run}
 use Rattle.table.specs.declared.extent.Slot.{Slot}
@@ -44,9 +44,9 @@ module _ {V : Type 0} (shift : V → ℕ → V) (clear : V → Bool) where
   changed (overlay t tops b bases) m = record { length = t.length; value = over clear (map_of shift t tops) (map_of shift b bases) }
 
   -- the calls' map, from their arguments and from which were accepted
-  abbrev pub after : List (Call V × Bool) → Mapped V → Mapped V
+  abbrev pub after : List (Call V × Result (Unit {0}) Refusal) → Mapped V → Mapped V
   after [] m = m
-  after (c ∷ cs) m = after cs (cond c.1 (changed c.0 m) m)
+  after (c ∷ cs) m = after cs (if is_ok c.1 then changed c.0 m else m)
 
 -- the map of a fresh table
 abbrev pub fresh : {V : Type 0} → Mapped V
@@ -63,11 +63,11 @@ module _ {V : Type 0} (shift : V → ℕ → V) (same : V → V → Bool) (clear
   Does (cut n) h xs h' xs' r = Cuts shift same h xs n h' xs' r
   Does (overlay t tops b bases) h xs h' xs' r = Overlays shift same clear t tops b bases h xs h' xs' r
 
-  -- calls done one after the other, each with whether it was accepted
-  abbrev pub Ran : List (Call V × Bool) → Head → List (Slot V) → Head → List (Slot V) → Type 0
+  -- calls done one after the other, each with what it gave
+  abbrev pub Ran : List (Call V × Result (Unit {0}) Refusal) → Head → List (Slot V) → Head → List (Slot V) → Type 0
   Ran [] h xs h' xs' = (h' ≡ h) × (xs' ≡ xs)
   Ran (c ∷ cs) h xs h' xs' =
-      (k : Head) × (ys : List (Slot V)) × (r : Result (Unit {0}) Refusal) × Does c.0 h xs k ys r × (is_ok r ≡ c.1) × Ran cs k ys h' xs'
+      (k : Head) × (ys : List (Slot V)) × Does c.0 h xs k ys c.1 × Ran cs k ys h' xs'
 
   -- a table holds a map: it is normal, as long, and agrees at every sector
   pub record Holds (m : Mapped V) (h : Head) (xs : List (Slot V)) : Type 0 where
@@ -87,7 +87,7 @@ module _ {V : Type 0} (shift : V → ℕ → V) (same : V → V → Bool) (clear
 
   -- After any calls, refused ones included, a table that began fresh holds the calls' map.
   abbrev pub Histories : Type 0
-  Histories = (cs : List (Call V × Bool)) (xs : List (Slot V)) (h' : Head) (xs' : List (Slot V)) → Ran cs fresh_head xs h' xs' → Holds (after shift clear cs fresh) h' xs'
+  Histories = (cs : List (Call V × Result (Unit {0}) Refusal)) (xs : List (Slot V)) (h' : Head) (xs' : List (Slot V)) → Ran cs fresh_head xs h' xs' → Holds (after shift clear cs fresh) h' xs'
 
   -- Two assigns whose runs share no sector, given to two copies of a table in both orders: if all four are accepted, the copies differ in no slot.
   abbrev pub Commute : Type 0
@@ -96,3 +96,15 @@ module _ {V : Type 0} (shift : V → ℕ → V) (same : V → V → Bool) (clear
       (h h₁ h₂ k k₁ k₂ : Head) (xs xs₁ xs₂ ys ys₁ ys₂ : List (Slot V)) → h.length ≡ k.length → SameTables same h xs k ys →
       Assigns shift same h xs p v h₁ xs₁ (Ok tt) → Assigns shift same h₁ xs₁ q w h₂ xs₂ (Ok tt) →
       Assigns shift same k ys q w k₁ ys₁ (Ok tt) → Assigns shift same k₁ ys₁ p v k₂ ys₂ (Ok tt) → SameTables same h₂ xs₂ k₂ ys₂
+
+  -- the laws of tables
+  pub record TableLaws : Type 0 where
+    pub least : Least
+    pub histories : Histories
+    pub equal_maps : EqualMaps
+    pub commute : Commute
+
+  -- What a list of calls leaves of a fresh table in lent slots: each did what it may, and the table holds the map that they make.
+  pub record Replays (cs : List (Call V × Result (Unit {0}) Refusal)) (xs : List (Slot V)) (h' : Head) (xs' : List (Slot V)) : Type 0 where
+    pub ran : Ran cs fresh_head xs h' xs'
+    pub holds : Holds (after shift clear cs fresh) h' xs'

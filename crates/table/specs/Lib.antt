@@ -1,8 +1,10 @@
 pub mod Kinds
 pub mod Extents
 pub mod Maps
+pub mod Checks
 pub mod Refusals
 pub mod Calls
+pub mod Rows
 pub mod Steps
 pub mod Walks
 pub mod Histories

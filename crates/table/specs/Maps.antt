@@ -1,5 +1,5 @@
 -- Maps: a value for each sector, and what it is to write one.
-use Rattle.std.specs.Prelude.{◌≡◌, ℕ, ◌+◌, ◌-◌, ◌<◌, Bool, true, cond, List, length, nat_lt}
+use Rattle.std.specs.Prelude.{◌≡◌, ℕ, ◌+◌, ◌-◌, ◌<◌, ◌≤◌, Bool, true, cond, List, length, nat_lt}
 use Rattle.table.specs.declared.extent.Slot.{Slot}
 use Rattle.table.specs.Extents.{at, Covers}
 
@@ -17,9 +17,11 @@ module _ {V : Type 0} (shift : V → ℕ → V) (same : V → V → Bool) where
   abbrev pub Writes : Map V → List (Slot V) → ℕ → Type 0
   Writes m ys n = Covers ys n × Agree same m (at shift ys) n
 
-  -- every list that writes the map is longer than the row: its least number of extents does not fit
-  abbrev pub NoneFits : Map V → ℕ → ℕ → Type 0
-  NoneFits m n row = (ys : List (Slot V)) → Writes m ys n → row < length ys
+  -- some list that writes the map has at most as many entries as the row has slots
+  pub record Fits (m : Map V) (n row : ℕ) : Type 0 where
+    pub list : List (Slot V)
+    pub writes : Writes m list n
+    pub few : length list ≤ row
 
 module _ {V : Type 0} (shift : V → ℕ → V) where
   -- v from sector n on

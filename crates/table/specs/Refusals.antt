@@ -1,5 +1,7 @@
--- The numbers of the refusals, and the one order in which calls on tables judge.
-use Rattle.std.specs.Prelude.{ℕ, Ok, Err, Result}
+-- The numbers of the refusals, and the words of the layers.
+use Rattle.std.specs.Prelude.{ℕ, List, codes}
+use Rattle.table.specs.declared.refusal.Layer.{Layer}
+use Rattle.table.specs.declared.refusal.Layer.TheVariants.{Table, Roster, Text}
 use Rattle.table.specs.declared.refusal.Refusal.{Refusal}
 use Rattle.table.specs.declared.refusal.Refusal.TheVariants.{EmptyLength, BrokenTable, Outside, PastLimit, LengthsDiffer, NoRoom}
 
@@ -11,14 +13,8 @@ number_of PastLimit = 4
 number_of LengthsDiffer = 9
 number_of NoRoom = 11
 
--- Each refusal is given exactly if its check is the first that fails, and leaves all as it was.
--- filled: the length is not 0; sound: what is read is normal; inside: the run, sector or cut is inside;
--- bounded: the length stays within the limit; level: top and base are equally long; full: the result does not fit.
-abbrev pub Answers : {A : Type 0} (filled sound inside bounded level full kept : Type 0) (done : A → Type 0) → Result A Refusal → Type 0
-Answers filled sound inside bounded level full kept done (Err EmptyLength) = kept × (filled → ⊥)
-Answers filled sound inside bounded level full kept done (Err BrokenTable) = kept × filled × (sound → ⊥)
-Answers filled sound inside bounded level full kept done (Err Outside) = kept × filled × sound × (inside → ⊥)
-Answers filled sound inside bounded level full kept done (Err PastLimit) = kept × filled × sound × inside × (bounded → ⊥)
-Answers filled sound inside bounded level full kept done (Err LengthsDiffer) = kept × filled × sound × inside × bounded × (level → ⊥)
-Answers filled sound inside bounded level full kept done (Err NoRoom) = kept × filled × sound × inside × bounded × level × full
-Answers filled sound inside bounded level full kept done (Ok a) = done a × filled × sound × inside × bounded × level
+-- the word of a layer
+abbrev pub layer_text : Layer → List ℕ
+layer_text Table = codes "table"
+layer_text Roster = codes "roster"
+layer_text Text = codes "text"

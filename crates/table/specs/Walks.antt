@@ -1,59 +1,57 @@
--- What the steps of an overlay's walk over its top and its base answer.
-use Rattle.std.specs.Prelude.{◌≡◌, ℕ, ◌+◌, ◌-◌, ◌<◌, ◌≤◌, Bool, true, List, length, take, Some, None, Option}
-use Rattle.table.specs.declared.extent.Head.{Head}
+-- A top over a base piece by piece, and the slots that the pieces make.
+use Rattle.std.specs.Prelude.{ℕ, ◌^◌, ◌≤◌, Bool, false, cond, List, [], ◌∷◌, length, nat_lt, Some, None, Option}
 use Rattle.table.specs.declared.extent.Slot.{Slot}
-use Rattle.table.specs.declared.overlay.Piece.{Piece}
-use Rattle.table.specs.declared.overlay.Walk.{Walk}
-use Rattle.table.specs.Extents.{before, Distinct, Normal}
+use Rattle.table.specs.declared.overlay.Pieces.{Pieces}
+use Rattle.table.specs.declared.overlay.Slots.{Slots}
+use Rattle.table.specs.Extents.{value_at, at, Distinct, next}
 use Rattle.table.specs.Maps.{Map, Writes, over}
-use Rattle.table.specs.Calls.{map_of}
-use Rattle.table.specs.Steps.{Next}
 
 -- the map of a top over a base
-abbrev pub laid : {V : Type 0} → (V → ℕ → V) → (V → Bool) → Head → List (Slot V) → Head → List (Slot V) → Map V
-laid shift clear t tops b bases = over clear (map_of shift t tops) (map_of shift b bases)
+abbrev pub laid : {V : Type 0} → (V → ℕ → V) → (V → Bool) → List (Slot V) → List (Slot V) → Map V
+laid shift clear tops bases = over clear (at shift tops) (at shift bases)
 
-module _ {V : Type 0} (shift : V → ℕ → V) where
-  -- From sector a on, the extent that holds it: no other slot starts before the piece's end.
-  pub record Reads (h : Head) (xs : List (Slot V)) (a : ℕ) (r : Piece V) : Type 0 where
-    pub value : (d : V) → r.value ≡ map_of shift h xs d a
-    pub up : a < r.end
-    pub inside : r.end ≤ h.length
-    pub passed : r.passed ≡ before r.end (take h.count xs)
-    pub whole : before r.end (take h.count xs) ≡ before (a + 1) (take h.count xs)
+module _ {V : Type 0} (shift : V → ℕ → V) (clear : V → Bool) where
+  -- the piece that starts at a sector of the extents of s and t, of the one over the other
+  abbrev pub piece : Slot V → Slot V → ℕ → Slot V
+  piece s t a =
+      record { start = a; value = cond (clear (value_at shift s a)) (value_at shift t a) (value_at shift s a) }
+
+  -- The pieces of a top over a base of n sectors, from sector a on: one starts wherever an extent of either does.
+  abbrev pub pieces : ℕ → ℕ → List (Slot V) → List (Slot V) → List (Slot V)
+  pieces n a [] bases = []
+  pieces n a (s ∷ ss) [] = []
+  pieces n a (s ∷ ss) (t ∷ ts) =
+      piece s t a
+      ∷ cond (nat_lt (next ss n) (next ts n)) (pieces n (next ss n) ss (t ∷ ts))
+      (cond (nat_lt (next ts n) (next ss n)) (pieces n (next ts n) (s ∷ ss) ts) (pieces n (next ss n) ss ts))
+
+  -- those that an iterator has left
+  abbrev pub left : Pieces V → List (Slot V)
+  left p = pieces p.length p.at p.tops.now p.bases.now
 
 module _ {V : Type 0} (shift : V → ℕ → V) (same : V → V → Bool) where
-  -- two tables that can lie one over the other
-  pub record Layered (t : Head) (tops : List (Slot V)) (b : Head) (bases : List (Slot V)) : Type 0 where
-    pub top : Normal shift same t tops
-    pub base : Normal shift same b bases
-    pub level : t.length ≡ b.length
+  -- whether a piece continues the last slot, if there is one
+  abbrev pub continues : Option (Slot V) → Slot V → Bool
+  continues None p = false
+  continues (Some s) p = same (value_at shift s p.start) p.value
 
-  -- the value with which the sector before p goes on; sector 0 has none before it
-  abbrev pub Told : (ℕ → V) → ℕ → Option V → Type 0
-  Told m p None = p ≡ 0
-  Told m p (Some v) = (0 < p) × (same (shift (m (p - 1)) 1) v ≡ true)
+  -- the pieces that do not continue the slot before them
+  abbrev pub joined : Option (Slot V) → List (Slot V) → List (Slot V)
+  joined last [] = []
+  joined last (p ∷ ps) = cond (continues last p) (joined last ps) (p ∷ joined (Some p) ps)
 
-  -- a walk that stands where it says it does
-  pub record Ready (clear : V → Bool) (t : Head) (tops : List (Slot V)) (b : Head) (bases : List (Slot V)) (w : Walk V) : Type 0 where
-    pub inside : w.at ≤ t.length
-    pub top : w.top ≡ before w.at (take t.count tops)
-    pub base : w.base ≡ before w.at (take b.count bases)
-    pub next : (d : V) → Told (laid shift clear t tops b bases d) w.at w.next
+  -- the slots that pieces make
+  abbrev pub slots_of : (V → Bool) → Pieces V → List (Slot V)
+  slots_of clear p = joined None (left shift clear p)
 
-  -- From p to q the map continues its value at p, and a slot begins there if the map breaks.
-  pub record Strides (m : Map V) (p q : ℕ) (o : Option (Slot V)) : Type 0 where
-    pub up : p < q
-    pub flat : (d : V) (i : ℕ) → p ≤ i → i < q → same (m d i) (shift (m d p) (i - p)) ≡ true
-    pub next : (d : V) → Next shift same (m d) p (m d p) o
+  -- those that an iterator has left
+  abbrev pub slots_left : (V → Bool) → Slots V → List (Slot V)
+  slots_left clear s = joined s.last (left shift clear s.pieces)
 
-  -- some list of r slots, none of which continues the one before it, writes the map
-  pub record Counted (m : Map V) (n r : ℕ) : Type 0 where
-    pub list : List (Slot V)
-    pub writes : Writes shift same m list n
-    pub distinct : Distinct shift same list
-    pub many : length list ≡ r
-
-  -- such a list has room in a row
-  abbrev pub Fits : Map V → ℕ → ℕ → Type 0
-  Fits m n row = (r : ℕ) × Counted m n r × (r ≤ row)
+  -- slots that write a map of n sectors, as few as can be, none of which continues the one before it
+  pub record Lays (m : Map V) (n : ℕ) (ys : List (Slot V)) : Type 0 where
+    pub bounded : n ≤ 2 ^ 40
+    pub writes : Writes shift same m ys n
+    pub distinct : Distinct shift same ys
+    pub few : length ys ≤ n
+    pub least : (zs : List (Slot V)) → Writes shift same m zs n → length ys ≤ length zs

@@ -1,11 +1,11 @@
 // The kind of value that says which volumes hold a sector.
-ghost use Rattle.std.specs.Prelude.{◌≡◌, ℕ, ◌==◌};
+ghost use Rattle.std.specs.Prelude.{◌==◌};
 ghost use Rattle.std.proofs.Common.{rules};
 
 use crate::kind::Value;
 
 // Bit h stands for volume h.
-#[derive(Clone, Copy)]
+#[derive(Clone, Copy, Debug, Default, PartialEq, Eq)]
 pub struct Mask {
     pub bits: u32,
 }
@@ -24,7 +24,7 @@ impl Value for Mask {
     }
 
     fn is_same(self, other: Mask) -> bool {
-        self.bits == other.bits
+        self == other
     }
 
     fn is_clear(self) -> bool {

@@ -1,54 +1,40 @@
-// Whether a table is normal, and which extent holds a sector of one that is.
-ghost use Rattle.std.specs.Prelude.{◌≡◌, ℕ, ◌<◌, ◌≤◌, length, take, Decides};
-ghost use Rattle.table.specs.Extents.{Normal, before, value_at};
-ghost use Rattle.table.specs.Calls.{map_of};
+// Whether a table is normal.
+ghost use Rattle.std.specs.Prelude.{◌↔◌, IsTrue};
+ghost use Rattle.table.specs.Extents.{Normal};
 
-use crate::extent::{Head, Slot};
+use crate::extent::Head;
 use crate::kind::Value;
+use crate::table::View;
 
 // The largest length of a table, in sectors.
 pub const LIMIT: u64 = 1 << 40;
 
-// Whether a table is normal: its slots suffice, its length is within the limit, its extents cover the length,
-// and none continues the one before it.
-pub fn is_normal<V: Value>(head: &Head, slots: &[Slot<V>]) -> bool
-    ensures { Decides result (Normal V.shift V.same head.now slots.now) }
-{
-    let count = head.count;
-    let length = head.length;
-    if count > slots.len() || length > LIMIT {
-        return false;
-    }
-    if count == 0 {
-        return length == 0;
-    }
-    let mut last = slots[0];
-    if last.start != 0 {
-        return false;
-    }
-    for i in 1..count {
-        let slot = slots[i];
-        if slot.start <= last.start {
+impl<'a, V: Value> View<'a, V> {
+    // Whether a table is normal: its slots suffice, its length is within the limit, its extents cover the length,
+    // and none continues the one before it.
+    pub fn is_normal(&self) -> bool
+        ensures { IsTrue result ↔ Normal V.shift V.same self.now.head self.now.slots.now }
+    {
+        let Head { count, length } = self.head;
+        if count > self.slots.len() || length > LIMIT {
             return false;
         }
-        if last.value_at(slot.start).is_same(slot.value) {
+        let Some((first, rest)) = self.slots[..count].split_first() else {
+            return length == 0;
+        };
+        if first.start != 0 {
             return false;
         }
-        last = slot;
-    }
-    last.start < length
-}
-
-// How many of the counted slots start below a sector.
-pub(crate) fn count_before<V: Value>(slots: &[Slot<V>], count: usize, sector: u64) -> usize
-    requires { count ≤ length slots.now }
-    ensures { result ≡ before sector (take count slots.now) }
-{
-    for i in 0..count {
-        let slot = slots[i];
-        if slot.start >= sector {
-            return i;
+        let mut last = first;
+        for slot in rest {
+            if slot.start <= last.start {
+                return false;
+            }
+            if last.goes_on_with(*slot) {
+                return false;
+            }
+            last = slot;
         }
+        last.start < length
     }
-    count
 }

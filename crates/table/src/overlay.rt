@@ -1,73 +1,78 @@
 // The overlay of a top over a base, written into a third table.
-ghost use Rattle.std.specs.Prelude.{◌≡◌, ℕ, ◌+◌, ◌<◌, ◌≤◌, length, take, if◌then◌else◌, None};
-ghost use Rattle.table.specs.Calls.{Leaves, Overlays};
-ghost use Rattle.table.specs.Extents.{Normal, before};
-ghost use Rattle.table.specs.Steps.{Next};
-ghost use Rattle.table.specs.Walks.{Counted, Fits, Layered, Reads, Ready, Strides, Told, laid};
+ghost use Rattle.std.specs.Prelude.{◌≡◌, ◌^◌, ◌<◌, length, if◌then◌else◌, OnOk, IfErr};
+ghost use Rattle.std.specs.Iterator.{YieldsFirst, item_count};
+ghost use Rattle.table.specs.Calls.{Overlays};
+ghost use Rattle.table.specs.Rows.{SameRow};
+ghost use Rattle.table.specs.Steps.{Splices};
+ghost use Rattle.table.specs.Walks.{Lays, laid, left, slots_left, slots_of};
 
-use crate::extent::{Head, Slot};
+use crate::extent::{Head, Slot, end_of};
+use crate::extents::Extents;
 use crate::kind::Value;
-use crate::normal::is_normal;
 use crate::refusal::Refusal;
-use crate::row::put;
+use crate::table::{Table, View};
 
-// A table's extent from a sector on: its value there, where it ends, and how many slots start before that.
+// The pieces of a top over a base that are left. A piece starts wherever an extent of either does.
+// Of both tables those slots are left whose extents go on past `at`, where the next piece starts.
 #[derive(Clone, Copy)]
-struct Piece<V> {
-    value: V,
-    end: u64,
-    passed: usize,
-}
-
-// How far an overlay has come: the sector, how many slots of the top and of the base start before it,
-// and the value with which the last extent would go on there, if there is one.
-#[derive(Clone, Copy)]
-struct Walk<V> {
+struct Pieces<'a, V> {
+    tops: &'a [Slot<V>],
+    bases: &'a [Slot<V>],
+    length: u64,
     at: u64,
-    top: usize,
-    base: usize,
-    next: Option<V>,
 }
 
-// How many of the counted slots start at or before a sector, where `passed` start before it.
-fn passed_at<V: Value>(head: Head, slots: &[Slot<V>], passed: usize, sector: u64) -> usize
-    requires normal { Normal V.shift V.same head slots.now }
-    requires inside { sector < head.length }
-    requires passed { passed ≡ before sector (take head.count slots.now) }
-    ensures { result ≡ before (sector + 1) (take head.count slots.now) }
-{
-    if passed >= head.count {
-        return passed;
+impl<'a, V: Value> Pieces<'a, V> {
+    // All pieces of a top over a base of the same length.
+    fn new(top: &Extents<'a, V>, base: &Extents<'a, V>) -> Pieces<'a, V>
+        requires level { top.now.length ≡ base.now.length }
+        ensures lays { Lays V.shift V.same (laid V.shift V.clear top.now.slots.now base.now.slots.now) top.now.length (slots_of V.shift V.same V.clear result) }
+        ensures length { result.length ≡ top.now.length }
+    {
+        Pieces {
+            tops: top.slots,
+            bases: base.slots,
+            length: top.length,
+            at: 0,
+        }
     }
-    let slot = slots[passed];
-    if slot.start == sector {
-        return passed + 1;
+
+    // The slots that they make.
+    fn slots(self) -> Slots<'a, V>
+        ensures { slots_left V.shift V.same V.clear result ≡ slots_of V.shift V.same V.clear self.entry }
+    {
+        Slots {
+            pieces: self,
+            last: None,
+        }
     }
-    passed
 }
 
-// The rest, from a sector on, of the extent that holds it.
-fn piece_at<V: Value>(head: Head, slots: &[Slot<V>], passed: usize, sector: u64) -> Piece<V>
-    requires normal { Normal V.shift V.same head slots.now }
-    requires inside { sector < head.length }
-    requires passed { passed ≡ before sector (take head.count slots.now) }
-    ensures { Reads V.shift head slots.now sector result }
-{
-    let passed = passed_at(head, slots, passed, sector);
-    let slot = slots[passed - 1];
-    let value = slot.value_at(sector);
-    if passed >= head.count {
-        return Piece {
-            value,
-            end: head.length,
-            passed,
+impl<V: Value> Iterator for Pieces<'_, V> {
+    type Item = Slot<V>;
+
+    ghost next_gives = { YieldsFirst (left V.shift V.clear) };
+
+    ghost remaining = { item_count (left V.shift V.clear) };
+
+    fn next(&mut self) -> Option<Slot<V>> {
+        let (top, tops) = self.tops.split_first()?;
+        let (base, bases) = self.bases.split_first()?;
+        let piece = Slot {
+            start: self.at,
+            value: value_over(top.value_at(self.at), base.value_at(self.at)),
         };
-    }
-    let following = slots[passed];
-    Piece {
-        value,
-        end: following.start,
-        passed,
+        let top_end = end_of(tops, self.length);
+        let base_end = end_of(bases, self.length);
+        // An extent that ends with the piece is done, and both may be.
+        if top_end <= base_end {
+            self.tops = tops;
+        }
+        if base_end <= top_end {
+            self.bases = bases;
+        }
+        self.at = top_end.min(base_end);
+        Some(piece)
     }
 }
 
@@ -81,129 +86,65 @@ fn value_over<V: Value>(top: V, base: V) -> V
     top
 }
 
-// The slot that a value begins where a walk stands, or none where the extent before goes on with it.
-fn slot_at<V: Value>(walk: Walk<V>, value: V) -> Option<Slot<V>>
-    ensures { (m : ℕ → V) → Told V.shift V.same m walk.at walk.next → Next V.shift V.same m walk.at value result }
-{
-    let slot = Slot {
-        start: walk.at,
-        value,
-    };
-    let Some(next) = walk.next else {
-        return Some(slot);
-    };
-    if next.is_same(value) {
-        return None;
-    }
-    Some(slot)
+// The slots that pieces make which are left: a piece that continues the last slot makes none.
+#[derive(Drop)]
+struct Slots<'a, V> {
+    pieces: Pieces<'a, V>,
+    last: Option<Slot<V>>,
 }
 
-// One piece further: to where the top's or the base's extent ends, with the slot that begins the piece, if one does.
-fn step<V: Value>(
-    top_head: Head,
-    top: &[Slot<V>],
-    base_head: Head,
-    base: &[Slot<V>],
-    walk: Walk<V>,
-) -> (Walk<V>, Option<Slot<V>>)
-    requires layers { Layered V.shift V.same top_head top.now base_head base.now }
-    requires ready { Ready V.shift V.same V.clear top_head top.now base_head base.now walk }
-    requires inside { walk.at < top_head.length }
-    ensures ready { Ready V.shift V.same V.clear top_head top.now base_head base.now result.0 }
-    ensures strides { Strides V.shift V.same (laid V.shift V.clear top_head top.now base_head base.now) walk.at result.0.at result.1 }
-{
-    let over = piece_at(top_head, top, walk.top, walk.at);
-    let under = piece_at(base_head, base, walk.base, walk.at);
-    let value = value_over(over.value, under.value);
-    let end = over.end.min(under.end);
-    let further = Walk {
-        at: end,
-        top: over.passed,
-        base: under.passed,
-        next: Some(value.shifted(end - walk.at)),
-    };
-    (further, slot_at(walk, value))
-}
+impl<V: Value> Iterator for Slots<'_, V> {
+    type Item = Slot<V>;
 
-// A walk that has yet to begin.
-fn walk_start<V: Value>() -> Walk<V>
-    ensures { (result.at ≡ 0) × (result.top ≡ 0) × (result.base ≡ 0) × (result.next ≡ None) }
-{
-    Walk {
-        at: 0,
-        top: 0,
-        base: 0,
-        next: None,
-    }
-}
+    ghost next_gives = { YieldsFirst (slots_left V.shift V.same V.clear) };
 
-// How many slots the overlay has when normal.
-fn count_over<V: Value>(top_head: Head, top: &[Slot<V>], base_head: Head, base: &[Slot<V>]) -> usize
-    requires layers { Layered V.shift V.same top_head top.now base_head base.now }
-    ensures { Counted V.shift V.same (laid V.shift V.clear top_head top.now base_head base.now) top_head.length result }
-{
-    let mut walk = walk_start();
-    let mut count = 0;
-    while walk.at < top_head.length {
-        let (further, slot) = step(top_head, top, base_head, base, walk);
-        if slot.is_some() {
-            count += 1;
+    ghost remaining = { item_count (slots_left V.shift V.same V.clear) };
+
+    fn next(&mut self) -> Option<Slot<V>> {
+        while let Some(piece) = self.pieces.next() {
+            if self.last.is_none_or(|slot| !slot.goes_on_with(piece)) {
+                self.last = Some(piece);
+                return self.last;
+            }
         }
-        walk = further;
+        None
     }
-    count
 }
 
-// Writes the overlay into a row with room for it, and answers how many slots it has.
-fn write_over<V: Value>(
-    slots: &mut [Slot<V>],
-    top_head: Head,
-    top: &[Slot<V>],
-    base_head: Head,
-    base: &[Slot<V>],
-) -> usize
-    requires layers { Layered V.shift V.same top_head top.now base_head base.now }
-    requires room { Fits V.shift V.same (laid V.shift V.clear top_head top.now base_head base.now) top_head.length (length slots.old) }
-    ensures { Leaves V.shift V.same (laid V.shift V.clear top_head top.now base_head base.now) top_head.length slots.old (record { count = result; length = top_head.length }) slots.new }
-{
-    let mut walk = walk_start();
-    let mut count = 0;
-    while walk.at < top_head.length {
-        let (further, slot) = step(top_head, top, base_head, base, walk);
-        count = put(slots, count, slot);
-        walk = further;
+impl<'a, V: Value> Table<'a, V> {
+    // Makes the slots that the pieces make the table's, or changes nothing where the row has no room for them.
+    fn fill(&mut self, pieces: Pieces<'_, V>) -> Result<(), Refusal>
+        requires few { length (slots_of V.shift V.same V.clear pieces) < 2 ^ 64 }
+        ensures done { OnOk result ((self.new.head.length ≡ pieces.entry.length) × Splices self.old.slots.now (slots_of V.shift V.same V.clear pieces.entry) self.new.slots.now self.new.head.count) }
+        ensures full { IfErr result (λ e. (e ≡ Refusal.NoRoom) × (self.new.head ≡ self.old.head) × (self.new.slots.now ≡ self.old.slots.now) × (length self.old.slots.now < length (slots_of V.shift V.same V.clear pieces.entry))) }
+        ensures row { length self.new.slots.now ≡ length self.old.slots.now }
+        ensures same_row { SameRow self.old self.new }
+    {
+        let count = pieces.slots().count();
+        if count > self.slots.len() {
+            return Err(Refusal::NoRoom);
+        }
+        for (k, slot) in pieces.slots().enumerate() {
+            self.slots[k] = slot;
+        }
+        self.head = Head {
+            count,
+            length: pieces.length,
+        };
+        Ok(())
     }
-    count
-}
 
-// Writes the top over the base: the top's values, or the base's where the top's are clear.
-pub fn overlay<V: Value>(
-    head: &mut Head,
-    slots: &mut [Slot<V>],
-    top_head: &Head,
-    top: &[Slot<V>],
-    base_head: &Head,
-    base: &[Slot<V>],
-) -> Result<(), Refusal>
-    ensures { Overlays V.shift V.same V.clear top_head.now top.now base_head.now base.now head.old slots.old head.new slots.new result }
-{
-    if !is_normal(top_head, top) {
-        return Err(Refusal::BrokenTable);
+    // Writes the top over the base: the top's values, or the base's where the top's are clear.
+    #[tactic(auto, using(crate::proofs::Walking::lays_leaves, crate::proofs::Tables::fits_of))]
+    pub fn overlay(&mut self, top: &View<'_, V>, base: &View<'_, V>) -> Result<(), Refusal>
+        ensures overlays { Overlays V.shift V.same V.clear top.now.head top.now.slots.now base.now.head base.now.slots.now self.old.head self.old.slots.now self.new.head self.new.slots.now result }
+        ensures same_row { SameRow self.old self.new }
+    {
+        let over = top.extents().ok_or(Refusal::BrokenTable)?;
+        let under = base.extents().ok_or(Refusal::BrokenTable)?;
+        if over.length != under.length {
+            return Err(Refusal::LengthsDiffer);
+        }
+        self.fill(Pieces::new(&over, &under))
     }
-    if !is_normal(base_head, base) {
-        return Err(Refusal::BrokenTable);
-    }
-    if top_head.length != base_head.length {
-        return Err(Refusal::LengthsDiffer);
-    }
-    let needed = count_over(*top_head, top, *base_head, base);
-    if needed > slots.len() {
-        return Err(Refusal::NoRoom);
-    }
-    let count = write_over(slots, *top_head, top, *base_head, base);
-    *head = Head {
-        count,
-        length: top_head.length,
-    };
-    Ok(())
 }

@@ -1,20 +1,23 @@
-// Why a call on a table says no.
-ghost use Rattle.std.specs.Prelude.{◌≡◌};
-ghost use Rattle.table.specs.Refusals.{number_of};
+// Why a call on a table says no, and which part of the compiler says so.
+ghost use Rattle.std.specs.Prelude.{◌≡◌, Some};
+ghost use Rattle.table.specs.Refusals.{number_of, layer_text};
 
-#[derive(Clone, Copy, Debug)]
+use std::fmt;
+use thiserror::Error;
+
+#[derive(Clone, Copy, Debug, PartialEq, Eq, Error)]
 pub enum Refusal {
-    // A run or an append has length 0.
+    #[error("a run or an append has length 0")]
     EmptyLength,
-    // A table read is not normal, or a volume not lawful.
+    #[error("a table read is not normal, or a volume not lawful")]
     BrokenTable,
-    // A run, a sector or a cut is outside the table.
+    #[error("a run, a sector or a cut is outside the table")]
     Outside,
-    // An append would pass the largest length.
+    #[error("an append would pass the largest length")]
     PastLimit,
-    // The lengths of top and base differ.
+    #[error("the lengths of top and base differ")]
     LengthsDiffer,
-    // The result, when normal, has more extents than the row has slots.
+    #[error("the result, when normal, has more extents than the row has slots")]
     NoRoom,
 }
 
@@ -30,5 +33,25 @@ impl Refusal {
             Refusal::LengthsDiffer => 9,
             Refusal::NoRoom => 11,
         }
+    }
+}
+
+// The part of the compiler that a refusal comes from.
+#[derive(Clone, Copy, Debug, PartialEq, Eq)]
+pub enum Layer {
+    Table,
+    Roster,
+    Text,
+}
+
+impl fmt::Display for Layer {
+    ghost output = { λ l. Some (layer_text l) };
+
+    fn fmt<W: fmt::Write>(&self, f: &mut fmt::Formatter<W>) -> fmt::Result {
+        f.write_str(match self {
+            Layer::Table => "table",
+            Layer::Roster => "roster",
+            Layer::Text => "text",
+        })
     }
 }

@@ -5,7 +5,9 @@ use Rattle.std.proofs.lemmas.Fmt.{decimal_by_steps, decimal_injective}
 use Rattle.std.proofs.ByRecursion.{All-append, All-push, All-weaker}
 use Rattle.std.specs.List.{flat_map, AllByRecursion}
 use Rattle.text.specs.declared.spot.Spot.{Spot}
-use Rattle.text.specs.Lines.{Line, line, Mapping, linear, striped, zeroes, errors}
+use Rattle.text.specs.declared.line.Line.{Line}
+use Rattle.text.specs.declared.line.Mapping.{Mapping}
+use Rattle.text.specs.declared.line.Mapping.TheVariants.{Linear as linear, Striped as striped, Zero as zeroes, Error as errors}
 use Rattle.text.specs.Spelling.{device_field, spot_fields, mapping_fields, spaced, spell, text_of, SmallSpot, SmallMapping, SmallLine}
 
 -- a text that begins with a byte that is not P
@@ -140,23 +142,23 @@ mapping_same errors errors sm sp e = refl
 
 -- the first line of a text, and the text behind it
 line_cut : (l k : Line) (x y : List ℕ) → SmallLine l → SmallLine k → spell l ++ x ≡ spell k ++ y → (l ≡ k) × (x ≡ y)
-line_cut (line a n m) (line b j p) x y sl sk e =
-    let fs = decimal n ∷ mapping_fields m in
-    let gs = decimal j ∷ mapping_fields p in
-    let regrouped = sym (append_assoc (decimal a) (spaced fs) x) ∙ e ∙ append_assoc (decimal b) (spaced gs) y in
-    let front = cut Inner (decimal a) (decimal b) (spaced fs ++ x) (spaced gs ++ y) (inner_decimal a sl.0) (inner_decimal b sk.0) (spaced_stops fs x) (spaced_stops gs y) regrouped in
-    let fields = spaced_cut fs gs x y (inner_decimal n sl.1, inner_mapping m sl.2) (inner_decimal j sk.1, inner_mapping p sk.2) front.1 in
+line_cut l k x y sl sk e =
+    let fs = decimal l.length ∷ mapping_fields l.mapping in
+    let gs = decimal k.length ∷ mapping_fields k.mapping in
+    let regrouped = sym (append_assoc (decimal l.start) (spaced fs) x) ∙ e ∙ append_assoc (decimal k.start) (spaced gs) y in
+    let front = cut Inner (decimal l.start) (decimal k.start) (spaced fs ++ x) (spaced gs ++ y) (inner_decimal l.start sl.0) (inner_decimal k.start sk.0) (spaced_stops fs x) (spaced_stops gs y) regrouped in
+    let fields = spaced_cut fs gs x y (inner_decimal l.length sl.1, inner_mapping l.mapping sl.2) (inner_decimal k.length sk.1, inner_mapping k.mapping sk.2) front.1 in
     let both = fields.0 in
-    let size : decimal n ≡ decimal j = cc in
-    let target : mapping_fields m ≡ mapping_fields p = cc in
-    let starts = decimal_injective a b sl.0 sk.0 front.0 in
-    let sizes = decimal_injective n j sl.1 sk.1 size in
-    let mapped = mapping_same m p sl.2 sk.2 target in
-    ((λ i. line (starts i) (sizes i) (mapped i)), fields.1)
+    let size : decimal l.length ≡ decimal k.length = cc in
+    let target : mapping_fields l.mapping ≡ mapping_fields k.mapping = cc in
+    let starts = decimal_injective l.start k.start sl.0 sk.0 front.0 in
+    let sizes = decimal_injective l.length k.length sl.1 sk.1 size in
+    let mapped = mapping_same l.mapping k.mapping sl.2 sk.2 target in
+    ((λ i. record { start = starts i; length = sizes i; mapping = mapped i }), fields.1)
 
 -- no line is spelled by nothing
 line_some : (l : Line) (x : List ℕ) → spell l ++ x ≡ [] → ⊥
-line_some (line a n m) x e = omega (arith, simp length-append at (ap length e))
+line_some l x e = omega (arith, simp length-append at (ap length e))
 
 pub text_same : (ls ks : List Line) → AllByRecursion SmallLine ls → AllByRecursion SmallLine ks → text_of ls ≡ text_of ks → ls ≡ ks
 text_same [] [] sl sk e = refl

@@ -1,42 +1,19 @@
--- Digits written from the last to the first, each before those that stand.
-use Rattle.std.proofs.Common.{◌≡◌, ℕ, ◌+◌, ◌-◌, ◌/◌, ◌%◌, ◌^◌, ◌<◌, ◌≤◌, List, [], ◌∷◌, ◌++◌, length, drop, set, decimal, sym, ap, ◌∙◌, append_assoc, arith, length-append, length-drop, length-set}
-use Rattle.std.proofs.lemmas.Fmt.{decimal_digit, decimal_step, decimal_nonempty, length-decimal-le}
-use Rattle.std.proofs.lemmas.List.{drop-set}
+-- How many digits a number has.
+use Rattle.std.proofs.Common.{◌≡◌, ℕ, zero, suc, ◌+◌, ◌*◌, ◌/◌, ◌%◌, ◌^◌, ◌<◌, ◌≤◌, List, [], ◌∷◌, ◌++◌, length, decimal, arith, length-append}
+use Rattle.std.proofs.lemmas.Fmt.{decimal_by_steps, length-decimal-le}
+use Rattle.std.proofs.Math.Nat.{pow-suc, one-le-pow}
 
--- left is still to be written before what stands from at on
-pub record Standing (n left at : ℕ) (bytes : List ℕ) : Type 0 where
-  pub len : length bytes ≡ 20
-  pub low : left ≤ n
-  pub up : at ≤ 20
-  pub held : decimal left ++ drop at bytes ≡ decimal n
+long_one : (m : ℕ) (b : ℕ) → m < 10 → (k : ℕ) → 10 ^ k ≤ m → k < 1
+long_one m b less zero le = omega arith
+long_one m b less (suc k) le = absurd (omega (arith, pow-suc 10 k, one-le-pow k 10 (omega arith)))
 
-module _ (n left at : ℕ) (bytes : List ℕ) (fits : n < 2 ^ 64) (s : Standing n left at bytes) where
-  pub place_left : 1 ≤ at
-  place_left =
-      let whole : length (decimal n) ≤ 20 = length-decimal-le 20 n (omega arith) (omega arith) fits in
-      let some : 0 < length (decimal left) = decimal_nonempty left (omega arith) in
-      let parts = simp (length-append, length-drop) at (ap length s.held) in
-      omega arith
+long_more : (m : ℕ) (ds : List ℕ) (b : ℕ) → ((k : ℕ) → 10 ^ k ≤ m / 10 → k < length ds) → (k : ℕ) → 10 ^ k ≤ m → k < length (ds ++ (b ∷ []))
+long_more m ds b h zero le = rw (length-append ds (b ∷ [])) (omega arith)
+long_more m ds b h (suc k) le =
+    rw (length-append ds (b ∷ [])) (omega (arith, h k (omega (arith, pow-suc 10 k))))
 
-  put_here : (b : ℕ) → drop (at - 1) (set bytes (at - 1) b) ≡ b ∷ drop at bytes
-  put_here b =
-      let some = place_left in
-      let same : at - 1 + 1 ≡ at = omega arith in
-      drop-set bytes (at - 1) b (omega arith) ∙ ap (λ k. b ∷ drop k bytes) same
-
-  pub digit_more : 10 ≤ left → Standing n (left / 10) (at - 1) (set bytes (at - 1) (48 + left % 10))
-  digit_more more =
-      let step = decimal_step left more (omega arith) in
-      record {
-        len = length-set bytes (at - 1) (48 + left % 10) ∙ s.len;
-        low = omega arith;
-        up = omega arith;
-        held =
-            ap (λ ds. decimal (left / 10) ++ ds) (put_here (48 + left % 10))
-            ∙ sym (append_assoc (decimal (left / 10)) ((48 + left % 10) ∷ []) (drop at bytes))
-            ∙ ap (λ ds. ds ++ drop at bytes) (sym step)
-            ∙ s.held;
-      }
-
-  pub digit_last : left < 10 → drop (at - 1) (set bytes (at - 1) (48 + left)) ≡ decimal n
-  digit_last last = put_here (48 + left) ∙ ap (λ ds. ds ++ drop at bytes) (sym (decimal_digit left last)) ∙ s.held
+pub digits_by_power : (k n : ℕ) → n < 2 ^ 64 → 10 ^ k ≤ n → n < 10 * 10 ^ k → k + 1 ≡ length (decimal n)
+digits_by_power k n fits low high =
+    let above = decimal_by_steps (λ m ds. (j : ℕ) → 10 ^ j ≤ m → j < length ds) (λ m less. long_one m 0 less) (λ m ds more h. long_more m ds (48 + m % 10) h) n fits k low in
+    let below = length-decimal-le (suc k) n (omega arith) (rw (pow-suc 10 k) (omega arith)) fits in
+    omega arith

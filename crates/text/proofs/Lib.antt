@@ -1,5 +1,4 @@
 mod Adding
-mod Answering
 mod Columns
 pub mod Decoding
 mod Figures

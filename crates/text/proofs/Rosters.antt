@@ -1,14 +1,14 @@
 -- Targets under a sound roster: they can be looked up, and their offsets do not wrap.
-use Rattle.std.proofs.Common.{◌≡◌, ℕ, ◌+◌, ◌*◌, ◌%◌, ◌^◌, ◌<◌, ◌≤◌, refl, ap, arith}
+use Rattle.std.proofs.Common.{◌≡◌, ℕ, ◌+◌, ◌*◌, ◌%◌, ◌^◌, ◌<◌, ◌≤◌, refl, ap, arith, length}
 use Rattle.std.proofs.lemmas.Nat.{mul-le}
 use Rattle.roster.specs.declared.entry.Entries.{Entries}
 use Rattle.roster.specs.declared.target.Target.{Target}
 use Rattle.roster.specs.declared.target.Target.TheVariants.{Zero, Error, Linear, Striped}
-use Rattle.roster.specs.Rosters.{set_at, span, size_of, Sound}
+use Rattle.roster.specs.Rosters.{no_device, no_set, set_at, span, size_of, Sound}
 use Rattle.roster.specs.Places.{place_of, Fair}
 use Rattle.roster.specs.Targets.{shift_target}
 use Rattle.text.specs.Lines.{lies, maps}
-use Rattle.text.specs.Walks.{Usable, Ready}
+use Rattle.text.specs.Walks.{Usable}
 use Rattle.text.specs.Printing.{spot_of, whole_of, offset_of, outcome_of}
 use Rattle.text.specs.Steps.{Proper, first_line}
 use Rattle.text.proofs.Geometry.{length_columns, stripe_is}
@@ -18,36 +18,24 @@ plain_on : (s k : ℕ) → (s + 0) % 2 ^ 64 < 2 ^ 50 → k ≤ 2 ^ 40 → (s + k
 plain_on s k low few = omega arith
 
 module _ (E : Entries) (sound : Sound E) where
-  pub usable_set : (n : ℕ) → n < E.set_count → Usable (set_at E n)
+  pub usable_set : (n : ℕ) → n < length E.sets.items → Usable E (set_at E n)
   usable_set n listed =
       record {
-        shaped = sound.shaped n listed;
-        housed = λ j less. let here = sound.housed n j (listed, less) in (omega (arith, here.0, sound.few_devices), omega (arith, here.1, (sound.devices _ here.0).3));
+        shaped = sound.shaped n no_set listed;
+        housed = λ j less. let here = sound.housed n no_set listed j less in (here.0, omega (arith, here.1, (sound.devices _ no_device here.0).3));
       }
-
-  pub ready_fair : (t : Target) → Fair E t → Ready E t
-  ready_fair Zero fair = tt
-  ready_fair Error fair = tt
-  ready_fair (Linear d s) fair = omega (arith, fair.0, sound.few_devices)
-  ready_fair (Striped n o) fair = (omega (arith, fair.1, sound.few_sets), usable_set n fair.1, omega (arith, fair.2))
-
-  pub proper_fair : (t : Target) → Fair E t → Proper (whole_of E t)
-  proper_fair Zero fair = tt
-  proper_fair Error fair = tt
-  proper_fair (Linear d s) fair = tt
-  proper_fair (Striped n o) fair =
-      let shaped = sound.shaped n fair.1 in
-      (omega (arith, shaped), omega (arith, shaped, length_columns E (set_at E n)))
 
   -- shifting leaves the whole that a target is a sector of
   pub proper_shifted : (t : Target) (k : ℕ) → Fair E (shift_target t k) → Proper (whole_of E t)
   proper_shifted Zero k fair = tt
   proper_shifted Error k fair = tt
   proper_shifted (Linear d s) k fair = tt
-  proper_shifted (Striped n o) k fair = proper_fair (Striped n ((o + k) % 2 ^ 64)) fair
+  proper_shifted (Striped n o) k fair =
+      let shaped = sound.shaped n no_set fair.1 in
+      (omega (arith, shaped), omega (arith, shaped, length_columns E (set_at E n)))
 
   -- a set is not larger than eight devices
-  pub size_small : (n : ℕ) → n < E.set_count → size_of (set_at E n) ≤ 8 * 2 ^ 40
+  pub size_small : (n : ℕ) → n < length E.sets.items → size_of (set_at E n) ≤ 8 * 2 ^ 40
   size_small n listed =
       let u = usable_set n listed in
       mul-le (set_at E n).width (span (set_at E n)) 8 (2 ^ 40) (omega (arith, u.shaped))
@@ -58,7 +46,7 @@ module _ (E : Entries) (sound : Sound E) where
   first_on Zero k at left fair few = refl
   first_on Error k at left fair few = refl
   first_on (Linear d s) k at left fair few =
-      let on = plain_on s k (omega (arith, fair.2, (sound.devices d fair.0).3)) few in
+      let on = plain_on s k (omega (arith, fair.2, (sound.devices d no_device fair.0).3)) few in
       let same : (s + k) % 2 ^ 64 % 2 ^ 64 ≡ s % 2 ^ 64 + k = omega arith in
       ap (λ o. first_line (whole_of E (Linear d s)) o at left) same
   first_on (Striped n o) k at left fair few =
@@ -71,9 +59,9 @@ module _ (E : Entries) (sound : Sound E) where
   maps_place Zero k fair few = refl
   maps_place Error k fair few = refl
   maps_place (Linear d s) k fair few =
-      let on = plain_on s k (omega (arith, fair.2, (sound.devices d fair.0).3)) few in
+      let on = plain_on s k (omega (arith, fair.2, (sound.devices d no_device fair.0).3)) few in
       let same : 0 + (s % 2 ^ 64 + k) ≡ (s + k) % 2 ^ 64 = omega arith in
       ap (λ i. lies (spot_of E d i)) same
   maps_place (Striped n o) k fair few =
       let on = plain_on o k (omega (arith, fair.2, size_small n fair.1)) few in
-      rw on (ap lies (stripe_is (set_at E n) (usable_set n fair.1) E (o % 2 ^ 64 + k)))
+      rw on (ap lies (stripe_is E (set_at E n) (usable_set n fair.1) (o % 2 ^ 64 + k)))

@@ -2,13 +2,13 @@
 use Rattle.std.proofs.Common.{◌≡◌, ℕ, ◌-◌, ◌^◌, ◌<◌, ◌≤◌, List, [], ◌∷◌, take, sym, refl, ap, ◌∙◌, arith}
 use Rattle.table.specs.declared.extent.Head.{Head}
 use Rattle.table.specs.declared.extent.Slot.{Slot}
-use Rattle.table.specs.Extents.{value_at, value_from, at, Climbs, Covers}
+use Rattle.table.specs.Extents.{value_at, value_from, at, Climbs, Covers, next}
 use Rattle.table.proofs.Alike.{from_before, from_after}
 use Rattle.roster.specs.declared.entry.Entries.{Entries}
 use Rattle.roster.specs.declared.target.Target.{Target}
 use Rattle.roster.specs.declared.target.Target.TheVariants.{Zero}
 use Rattle.roster.specs.Rosters.{Sound}
-use Rattle.roster.specs.Places.{place_of, next, Fair, AllLawful, Volume}
+use Rattle.roster.specs.Places.{place_of, AllLawful, Volume}
 use Rattle.roster.specs.Targets.{shift_target}
 use Rattle.text.specs.Lines.{Outcome, Tiles}
 use Rattle.text.specs.Steps.{extent_lines}
@@ -16,7 +16,7 @@ use Rattle.text.specs.Printing.{whole_of, offset_of, lines_from, outcome_of, Sho
 use Rattle.text.specs.Walks.{Goes, Within}
 use Rattle.text.proofs.Rosters.{proper_shifted, maps_place}
 use Rattle.text.proofs.Stepping.{extent_tiles, tiles_then}
-use Rattle.text.proofs.Walking.{goes_few}
+use Rattle.text.proofs.Walking.{goes_few, start_fair}
 
 -- starts that climb to n end within n
 climbs_next : (s : Slot Target) (ss : List (Slot Target)) (n : ℕ) → Climbs s ss n → (s.start < next ss n) × (next ss n ≤ n)
@@ -40,15 +40,12 @@ goes_volume E h xs v =
 
 module _ (E : Entries) (sound : Sound E) where
   module _ (s : Slot Target) (ss : List (Slot Target)) (n : ℕ) (goes : Goes E (s ∷ ss) n) where
-    start_fair : Fair E (shift_target s.value 0)
-    start_fair = goes.2 0 (omega (arith, goes.0))
-
     -- the lines of one extent
     tiles_extent : (w : ℕ → Outcome) → ((i : ℕ) → s.start ≤ i → i < next ss n → outcome_of E (place_of E (value_at shift_target s i)) ≡ w i) → Tiles w s.start (next ss n) (extent_lines (whole_of E s.value) (offset_of s.value) s.start (next ss n - s.start))
     tiles_extent w shows =
-        extent_tiles (whole_of E s.value) (proper_shifted E sound s.value 0 start_fair) (offset_of s.value) s.start (next ss n - s.start) (next ss n) w
+        extent_tiles (whole_of E s.value) (proper_shifted E sound s.value 0 (start_fair E s ss n goes)) (offset_of s.value) s.start (next ss n - s.start) (next ss n) w
         (omega (arith, goes.0))
-        (λ i lo hi. maps_place E sound s.value (i - s.start) start_fair (omega (arith, goes.1, goes_few E (s ∷ ss) n goes)) ∙ shows i lo hi)
+        (λ i lo hi. maps_place E sound s.value (i - s.start) (start_fair E s ss n goes) (omega (arith, goes.1, goes_few E (s ∷ ss) n goes)) ∙ shows i lo hi)
 
   tiles_from : (ss : List (Slot Target)) (s : Slot Target) (n : ℕ) → Goes E (s ∷ ss) n → (w : ℕ → Outcome) → ((i : ℕ) → s.start ≤ i → i < n → outcome_of E (place_of E (value_from shift_target s ss i)) ≡ w i) → Tiles w s.start n (lines_from E (s ∷ ss) n)
   tiles_from [] s n goes w shows =

@@ -6,7 +6,9 @@ use Rattle.std.proofs.ByRecursion.{All-get_or, All-map, All-weaker}
 use Rattle.std.proofs.lemmas.Bool.{cond_both, eqb-false}
 use Rattle.std.specs.List.{AllByRecursion}
 use Rattle.text.specs.declared.spot.Spot.{Spot}
-use Rattle.text.specs.Lines.{length_of, Mapping, linear, striped, zeroes, errors, further, nowhere}
+use Rattle.text.specs.declared.line.Mapping.{Mapping}
+use Rattle.text.specs.declared.line.Mapping.TheVariants.{Linear as linear, Striped as striped, Zero as zeroes, Error as errors}
+use Rattle.text.specs.Lines.{further, nowhere}
 use Rattle.text.specs.Spelling.{SmallSpot, SmallLine}
 use Rattle.text.specs.Steps.{row_size, whole_rows, rows_line, chunk_line, first_line, lines_by, extent_lines, Proper}
 use Rattle.text.proofs.Stepping.{first_plain}
@@ -67,7 +69,7 @@ module _ (m : Mapping) (modest : Modest m) (proper : Proper m) where
   small_by : (f o at left : ℕ) → o + left ≤ 2 ^ 60 → at + left ≤ 2 ^ 60 → AllByRecursion SmallLine (lines_by f m o at left)
   small_by zero o at left few start = tt
   small_by (suc f) o at left few start =
-      let n = length_of (first_line m o at left) in
+      let n = (first_line m o at left).length in
       cond_both (eqb left 0) _ _ (AllByRecursion SmallLine) (λ t. tt)
       (λ t.
       let some : 0 < left = omega (arith, eqb-false left 0 t) in

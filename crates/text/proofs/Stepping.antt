@@ -2,10 +2,14 @@
 use Rattle.std.proofs.Common.{◌≡◌, ℕ, zero, suc, ◌+◌, ◌-◌, ◌*◌, ◌/◌, ◌%◌, ◌<◌, ◌≤◌, true, eqb, leb, List, [], ◌∷◌, ◌++◌, map, length, sym, refl, ap, ◌∙◌, ⊎_elim, le_refl, add_assoc, mul_assoc, add-mul, arith}
 use lib.ListN.{length-map}
 use Rattle.std.proofs.lemmas.List.{get_or-map}
+use Rattle.std.proofs.Math.Nat.{mul-add-div_right, mul-add-mod_self_right}
 use Rattle.std.proofs.lemmas.Nat.{div-mul-add, mod-mul-add, mod_below, le-div, mul-le, mul-lt, div-add-mod'}
 use Rattle.std.proofs.lemmas.Bool.{cond-true, cond-false, cond_both, and_parts, eqb-true, leb-true, ne_eqb, eqb-false, eq-eqb, cases_Bool, cases_lt}
 use Rattle.text.specs.declared.spot.Spot.{Spot}
-use Rattle.text.specs.Lines.{Line, length_of, start_of, Mapping, linear, striped, zeroes, errors, Outcome, lies, maps, denotes, Tiles, further, stripe, nowhere}
+use Rattle.text.specs.declared.line.Line.{Line}
+use Rattle.text.specs.declared.line.Mapping.{Mapping}
+use Rattle.text.specs.declared.line.Mapping.TheVariants.{Linear as linear, Striped as striped, Zero as zeroes, Error as errors}
+use Rattle.text.specs.Lines.{Outcome, lies, maps, denotes, Tiles, further, stripe, nowhere}
 use Rattle.text.specs.Steps.{row_size, whole_rows, rows_line, chunk_line, first_line, lines_by, extent_lines, Proper}
 
 -- numbers of the form a * c + b with b below c
@@ -16,14 +20,6 @@ module _ (c : ℕ) (some : 0 < c) where
       let whole = div-add-mod' o c in
       let split : o + j ≡ o / c * c + (o % c + j) = omega arith in
       (ap (λ n. n / c) split ∙ div-mul-add (o / c) c (o % c + j) lt, ap (λ n. n % c) split ∙ mod-mul-add (o / c) c (o % c + j) lt)
-
-  -- whole chunks in front move the quotient alone
-  pub chunks_before : (q k : ℕ) → ((q * c + k) / c ≡ q + k / c) × ((q * c + k) % c ≡ k % c)
-  chunks_before q k =
-      let whole = div-add-mod' k c in
-      let lt = mod_below k c some in
-      let split : q * c + k ≡ (q + k / c) * c + k % c = omega (arith, add-mul q (k / c) c) in
-      (ap (λ n. n / c) split ∙ div-mul-add (q + k / c) c (k % c) lt, ap (λ n. n % c) split ∙ mod-mul-add (q + k / c) c (k % c) lt)
 
 further_further : (a b : ℕ) (s : Spot) → further b (further a s) ≡ further (a + b) s
 further_further a b s =
@@ -44,20 +40,18 @@ module _ (c : ℕ) (some : 0 < c) (cols : List Spot) where
   -- from whole rows on, a stripe is the stripe whose columns begin at that row
   pub stripe_rows : 0 < length cols → (r k : ℕ) → stripe c cols (r * row_size c cols + k) ≡ stripe c (map (further (r * c)) cols) k
   stripe_rows columns r k =
-      let chunks = chunks_before c some (r * length cols) k in
-      let round = chunks_before (length cols) columns r (k / c) in
       let spot = get_or-map (further (r * c)) cols (k / c % length cols) nowhere nowhere (mod_below (k / c) (length cols) columns) in
       let row = k / c / length cols * c in
-      rw (← mul_assoc r (length cols) c, chunks.0, chunks.1, round.0, round.1, length-map, spot)
+      rw (← mul_assoc r (length cols) c, mul-add-div_right some (r * length cols) k, mul-add-mod_self_right (r * length cols) c k, mul-add-div_right columns r (k / c), mul-add-mod_self_right r (length cols) (k / c), length-map, spot)
       (further_same ((r + k / c / length cols) * c + k % c) (r * c + (row + k % c)) _ (omega (arith, add-mul r (k / c / length cols) c))
       ∙ sym (further_further (r * c) (row + k % c) _))
 
 -- what the first line of an extent is
 pub record First (m : Mapping) (o at left : ℕ) (l : Line) : Type 0 where
-  pub begins : start_of l ≡ at
-  pub some : 0 < length_of l
-  pub within : length_of l ≤ left
-  pub holds : (i : ℕ) → at ≤ i → i < at + length_of l → denotes l i ≡ maps m (o + (i - at))
+  pub begins : l.start ≡ at
+  pub some : 0 < l.length
+  pub within : l.length ≤ left
+  pub holds : (i : ℕ) → at ≤ i → i < at + l.length → denotes l i ≡ maps m (o + (i - at))
 
 first_rows : (c : ℕ) (cols : List Spot) (o at left : ℕ) → 0 < c → 0 < length cols → whole_rows c cols o left ≡ true → First (striped c cols) o at left (rows_line c cols o at left)
 first_rows c cols o at left chunk columns whole =
@@ -112,7 +106,7 @@ module _ (m : Mapping) (sound : Proper m) where
       let none : left ≡ 0 = omega arith in cond-true (eqb left 0) _ _ (eq-eqb left 0 none)
   fuel (suc f) (suc g) o at left lf lg =
       let l = first_line m o at left in
-      let n = length_of l in
+      let n = l.length in
       ⊎_elim (λ t. cond-true (eqb left 0) _ _ t ∙ sym (cond-true (eqb left 0) _ _ t))
       (λ t.
       let some : 0 < left = omega (arith, eqb-false left 0 t) in
@@ -122,10 +116,10 @@ module _ (m : Mapping) (sound : Proper m) where
       (cases_Bool (eqb left 0))
 
   -- the first line, and the lines of what is left behind it
-  pub lines_more : (o at left : ℕ) → 0 < left → extent_lines m o at left ≡ first_line m o at left ∷ extent_lines m (o + length_of (first_line m o at left)) (at + length_of (first_line m o at left)) (left - length_of (first_line m o at left))
+  pub lines_more : (o at left : ℕ) → 0 < left → extent_lines m o at left ≡ first_line m o at left ∷ extent_lines m (o + (first_line m o at left).length) (at + (first_line m o at left).length) (left - (first_line m o at left).length)
   lines_more o at left some =
       let l = first_line m o at left in
-      let n = length_of l in
+      let n = l.length in
       let first = first_plain m o at left some sound in
       let one = fuel left (suc (left - 1)) o at left (omega arith) (omega arith) in
       let rest = fuel (left - 1) (left - n) (o + n) (at + n) (left - n) (omega (arith, first.some)) (omega arith) in
@@ -136,7 +130,7 @@ module _ (m : Mapping) (sound : Proper m) where
   tiles_by zero o at left e w lf end holds = omega arith
   tiles_by (suc f) o at left e w lf end holds =
       let l = first_line m o at left in
-      let n = length_of l in
+      let n = l.length in
       cond_both (eqb left 0) _ _ (Tiles w at e) (λ t. omega (arith, eqb-true left 0 t))
       (λ t.
       let some : 0 < left = omega (arith, eqb-false left 0 t) in
@@ -156,12 +150,12 @@ module _ (m : Mapping) (sound : Proper m) where
 -- lines that tile one stretch, and lines that tile the next
 pub tiles_then : (w : ℕ → Outcome) (a b e : ℕ) (ls ks : List Line) → Tiles w a b ls → Tiles w b e ks → Tiles w a e (ls ++ ks)
 tiles_then w a b e [] ks t u = rw t u
-tiles_then w a b e (l ∷ ls) ks t u = (t.0, t.1, t.2, tiles_then w (a + length_of l) b e ls ks t.3 u)
+tiles_then w a b e (l ∷ ls) ks t u = (t.0, t.1, t.2, tiles_then w (a + l.length) b e ls ks t.3 u)
 
 -- lines that tile two maps show that these are one
 pub tiles_same : (v w : ℕ → Outcome) (a e : ℕ) (ls : List Line) → Tiles v a e ls → Tiles w a e ls → (i : ℕ) → a ≤ i → i < e → v i ≡ w i
 tiles_same v w a e [] t u i lo hi = absurd (omega arith)
 tiles_same v w a e (l ∷ ls) t u i lo hi =
     ⊎_elim (λ here. sym (t.2 i lo here) ∙ u.2 i lo here)
-    (λ past. tiles_same v w (a + length_of l) e ls t.3 u.3 i past hi)
-    (cases_lt i (a + length_of l))
+    (λ past. tiles_same v w (a + l.length) e ls t.3 u.3 i past hi)
+    (cases_lt i (a + l.length))

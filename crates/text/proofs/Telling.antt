@@ -1,5 +1,5 @@
 -- Prints tell places: equal texts have equal lines, and equal lines denote equal places; equal places come from equal slots.
-use Rattle.std.proofs.Common.{◌≡◌, ℕ, ◌-◌, ◌%◌, ◌^◌, ◌<◌, ◌≤◌, true, eqb, List, [], ◌∷◌, ◌++◌, take, sym, refl, ap, ◌∙◌, inl, inr, arith}
+use Rattle.std.proofs.Common.{◌≡◌, ℕ, ◌-◌, ◌%◌, ◌^◌, ◌<◌, ◌≤◌, true, eqb, List, [], ◌∷◌, ◌++◌, take, sym, refl, ap, ◌∙◌, inl, inr, arith, length}
 use Rattle.std.proofs.lemmas.Nat.{mod_below}
 use Rattle.std.proofs.lemmas.List.FromFn.{get_or-map-range_with_len}
 use Rattle.std.proofs.ByRecursion.{All-append, All-from_get_or}
@@ -7,7 +7,7 @@ use Rattle.std.proofs.lemmas.Bool.{and_parts, eqb-true, cases_lt, cases_order}
 use Rattle.std.specs.List.{AllByRecursion}
 use Rattle.table.specs.declared.extent.Head.{Head}
 use Rattle.table.specs.declared.extent.Slot.{Slot}
-use Rattle.table.specs.Extents.{value_from, at, Covers}
+use Rattle.table.specs.Extents.{value_from, at, Covers, next}
 use Rattle.table.specs.Laws.{SameSlots}
 use Rattle.table.proofs.Alike.{from_before, from_after}
 use Rattle.table.proofs.Unique.{equal_maps}
@@ -16,8 +16,8 @@ use Rattle.roster.specs.declared.place.Place.{Place}
 use Rattle.roster.specs.declared.place.Place.TheVariants.{Zero as zero_place, Error as error_place, At}
 use Rattle.roster.specs.declared.target.Target.{Target}
 use Rattle.roster.specs.declared.target.Target.TheVariants.{Zero, Error, Linear, Striped}
-use Rattle.roster.specs.Rosters.{device_at, set_at, Sound}
-use Rattle.roster.specs.Places.{place_of, column_of, next, Fair, Volume}
+use Rattle.roster.specs.Rosters.{no_device, no_set, device_at, set_at, Sound}
+use Rattle.roster.specs.Places.{place_of, column_of, Fair, Volume}
 use Rattle.roster.specs.Targets.{shift_target, same_target}
 use Rattle.roster.proofs.Tells.{places_tell}
 use Rattle.text.specs.Lines.{nowhere}
@@ -32,7 +32,7 @@ use Rattle.text.proofs.Rosters.{size_small, proper_shifted}
 use Rattle.text.proofs.Showing.{goes_volume, volume_shows}
 use Rattle.text.proofs.Small.{Low, Modest, small_extent}
 use Rattle.text.proofs.Stepping.{tiles_same}
-use Rattle.text.proofs.Walking.{goes_few}
+use Rattle.text.proofs.Walking.{goes_few, start_fair}
 
 -- same targets are sectors of one whole, and the same sector of it
 same_whole : (E : Entries) (t u : Target) → same_target t u ≡ true → (whole_of E t ≡ whole_of E u) × (offset_of t ≡ offset_of u)
@@ -92,25 +92,25 @@ module _ (E : Entries) (sound : Sound E) where
   abbrev Listing : Place → Type 0
   Listing zero_place = Unit {0}
   Listing error_place = Unit {0}
-  Listing (At d s) = d < E.device_count
+  Listing (At d s) = d < length E.devices.items
 
   listed_place : (t : Target) → Fair E t → Listing (place_of E t)
   listed_place Zero fair = tt
   listed_place Error fair = tt
   listed_place (Linear d s) fair = fair.0
   listed_place (Striped n o) fair =
-      let shaped = sound.shaped n fair.1 in
-      (sound.housed n (column_of (set_at E n) o) (fair.1, mod_below _ _ (omega (arith, shaped)))).0
+      let shaped = sound.shaped n no_set fair.1 in
+      (sound.housed n no_set fair.1 (column_of (set_at E n) o) (mod_below _ _ (omega (arith, shaped)))).0
 
   -- devices with the same numbers are one
-  one_device : (d e : ℕ) → d < E.device_count → e < E.device_count → (device_at E d).major ≡ (device_at E e).major → (device_at E d).minor ≡ (device_at E e).minor → d ≡ e
+  one_device : (d e : ℕ) → d < length E.devices.items → e < length E.devices.items → (device_at E d).major ≡ (device_at E e).major → (device_at E d).minor ≡ (device_at E e).minor → d ≡ e
   one_device d e ld le major minor =
       elim (cases_order d e) [
         | inl same ↦ same
         | inr other ↦
             elim other [
-              | inl less ↦ absurd (sound.twins d e (less, le) (major, minor))
-              | inr more ↦ absurd (sound.twins e d (more, ld) (sym major, sym minor))
+              | inl less ↦ absurd (sound.twins d e no_device less le (major, minor))
+              | inr more ↦ absurd (sound.twins e d no_device more ld (sym major, sym minor))
             ]
       ]
 
@@ -130,13 +130,13 @@ module _ (E : Entries) (sound : Sound E) where
       let sector : s ≡ t = ap (λ x. x.sector) spots in
       λ i. At (device i) (sector i)
 
-  low_columns : (n : ℕ) → n < E.set_count → AllByRecursion Low (column_spots E (set_at E n))
+  low_columns : (n : ℕ) → n < length E.sets.items → AllByRecursion Low (column_spots E (set_at E n))
   low_columns n listed =
       All-from_get_or Low (column_spots E (set_at E n)) nowhere
       (λ j less.
       let lt : j < (set_at E n).width = omega (arith, length_columns E (set_at E n)) in
-      let here = sound.housed n j (listed, lt) in
-      let device = sound.devices _ here.0 in
+      let here = sound.housed n no_set listed j lt in
+      let device = sound.devices _ no_device here.0 in
       rw (get_or-map-range_with_len (column_spot E (set_at E n)) 0 (set_at E n).width j j nowhere lt (omega arith))
       (omega (arith, device), omega (arith, device), omega (arith, device, here.1)))
 
@@ -144,21 +144,21 @@ module _ (E : Entries) (sound : Sound E) where
   modest_fair : (t : Target) → Fair E (shift_target t 0) → Modest (whole_of E t)
   modest_fair Zero fair = tt
   modest_fair Error fair = tt
-  modest_fair (Linear d s) fair = let device = sound.devices d fair.0 in (omega (arith, device), omega (arith, device), omega arith)
+  modest_fair (Linear d s) fair = let device = sound.devices d no_device fair.0 in (omega (arith, device), omega (arith, device), omega arith)
   modest_fair (Striped n o) fair =
-      let shaped = sound.shaped n fair.1 in
+      let shaped = sound.shaped n no_set fair.1 in
       (omega (arith, shaped, length_columns E (set_at E n)), omega (arith, shaped), low_columns n fair.1)
 
   offset_low : (t : Target) → Fair E (shift_target t 0) → offset_of t < 2 ^ 50
   offset_low Zero fair = omega arith
   offset_low Error fair = omega arith
-  offset_low (Linear d s) fair = omega (arith, fair.2, (sound.devices d fair.0).3)
+  offset_low (Linear d s) fair = omega (arith, fair.2, (sound.devices d no_device fair.0).3)
   offset_low (Striped n o) fair = omega (arith, fair.2, size_small E sound n fair.1)
 
   small_list : (xs : List (Slot Target)) (n : ℕ) → Goes E xs n → AllByRecursion SmallLine (lines_from E xs n)
   small_list [] n goes = tt
   small_list (s ∷ ss) n goes =
-      let fair = goes.2 0 (omega (arith, goes.0)) in
+      let fair = start_fair E s ss n goes in
       let few = goes_few E (s ∷ ss) n goes in
       All-append SmallLine (extent_lines (whole_of E s.value) (offset_of s.value) s.start (next ss n - s.start)) (lines_from E ss n)
       (small_extent (whole_of E s.value) (modest_fair s.value fair) (proper_shifted E sound s.value 0 fair) (offset_of s.value) s.start (next ss n - s.start)

@@ -1,8 +1,9 @@
 pub mod Lines
 pub mod Spelling
-pub mod Pages
+pub mod Writers
 pub mod Steps
-pub mod Printing
 pub mod Refusals
+pub mod Printing
 pub mod Walks
 pub mod Laws
+pub mod Left

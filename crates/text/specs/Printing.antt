@@ -1,24 +1,27 @@
 -- The lines and the text of a volume, and what printing it answers.
-use Rattle.std.specs.Prelude.{◌≡◌, ℕ, ◌-◌, ◌%◌, ◌^◌, ◌<◌, ◌≤◌, List, [], ◌∷◌, ◌++◌, map, length, take, drop, Ok, Err, Result}
+use Rattle.std.specs.Prelude.{◌≡◌, ℕ, ◌-◌, ◌%◌, ◌^◌, ◌<◌, ◌≤◌, List, [], ◌∷◌, ◌++◌, map, length, take, drop, Result}
 use Rattle.std.specs.List.{range_with_len}
 use Rattle.table.specs.declared.extent.Head.{Head}
 use Rattle.table.specs.declared.extent.Slot.{Slot}
-use Rattle.table.specs.declared.refusal.Refusal.TheVariants.{BrokenTable}
 use Rattle.table.specs.Calls.{map_of}
+use Rattle.table.specs.Checks.{Answers, check, end}
 use Rattle.roster.specs.declared.entry.SetEntry.{SetEntry}
 use Rattle.roster.specs.declared.entry.Entries.{Entries}
 use Rattle.roster.specs.declared.place.Place.{Place}
 use Rattle.roster.specs.declared.place.Place.TheVariants.{Zero as zero_place, Error as error_place, At}
 use Rattle.roster.specs.declared.target.Target.{Target}
 use Rattle.roster.specs.declared.target.Target.TheVariants.{Zero, Error, Linear, Striped}
-use Rattle.roster.specs.declared.refusal.RosterRefusal.TheVariants.{Table}
 use Rattle.roster.specs.Rosters.{device_at, set_at, column_at}
 use Rattle.roster.specs.Targets.{shift_target}
-use Rattle.roster.specs.Places.{place_of, next, Volume}
+use Rattle.table.specs.Extents.{next}
+use Rattle.roster.specs.Places.{place_of, Volume}
 use Rattle.text.specs.declared.refusal.TextRefusal.{TextRefusal}
-use Rattle.text.specs.declared.refusal.TextRefusal.TheVariants.{Roster, TooLong}
 use Rattle.text.specs.declared.spot.Spot.{Spot}
-use Rattle.text.specs.Lines.{Line, Mapping, linear, striped, zeroes, errors, Outcome, lies, blank, fails, Tiles}
+use Rattle.text.specs.declared.line.Line.{Line}
+use Rattle.text.specs.declared.line.Mapping.{Mapping}
+use Rattle.text.specs.declared.line.Mapping.TheVariants.{Linear as linear, Striped as striped, Zero as zeroes, Error as errors}
+use Rattle.text.specs.Lines.{Outcome, lies, blank, fails, Tiles}
+use Rattle.text.specs.Refusals.{number_of}
 use Rattle.text.specs.Spelling.{text_of}
 use Rattle.text.specs.Steps.{extent_lines}
 
@@ -54,10 +57,6 @@ lines_from E [] n = []
 lines_from E (s ∷ ss) n =
     extent_lines (whole_of E s.value) (offset_of s.value) s.start (next ss n - s.start) ++ lines_from E ss n
 
--- the text of those lines
-abbrev pub text_for : Entries → List (Slot Target) → ℕ → List ℕ
-text_for E xs n = text_of (lines_from E xs n)
-
 -- the lines of a volume
 abbrev pub lines_of : Entries → Head → List (Slot Target) → List Line
 lines_of E h xs = lines_from E (take h.count xs) h.length
@@ -92,17 +91,19 @@ PrintsTellPlaces E =
     (printed E g xs ≡ printed E h ys → SamePlaces E g xs h ys)
     × (SamePlaces E g xs h ys → printed E g xs ≡ printed E h ys)
 
--- What is left of a buffer that a text is written to: the text and behind it what was there, or, if it does not fit, all.
+-- what a buffer holds that a text of n bytes was written to: the text, and behind it what was there
+abbrev pub Filled : List ℕ → List ℕ → List ℕ → ℕ → Type 0
+Filled text b b' n = (n ≡ length text) × (take n b' ≡ text) × (drop n b' ≡ drop n b)
+
+-- What writing a text answers: 20 if it is longer than the buffer, which stays as it was.
 abbrev pub Fills : List ℕ → List ℕ → List ℕ → Result ℕ TextRefusal → Type 0
-Fills text b b' (Ok n) = (n ≡ length text) × (n ≤ length b) × (take n b' ≡ text) × (drop n b' ≡ drop n b)
-Fills text b b' (Err TooLong) = (length b < length text) × (b' ≡ b)
-Fills text b b' (Err (Roster e)) = ⊥
+Fills text b b' = Answers number_of (check 20 (length text ≤ length b) end) (b' ≡ b) (Filled text b b')
 
 -- What print answers: 2 if the table is no volume, 20 if its text is longer than the buffer, and else the text and its length.
 abbrev pub Prints : Entries → Head → List (Slot Target) → List ℕ → List ℕ → Result ℕ TextRefusal → Type 0
-Prints E h xs b b' (Ok n) = Volume E h xs × Fills (printed E h xs) b b' (Ok n)
-Prints E h xs b b' (Err TooLong) = Volume E h xs × Fills (printed E h xs) b b' (Err TooLong)
-Prints E h xs b b' (Err (Roster e)) = (e ≡ Table BrokenTable) × (Volume E h xs → ⊥) × (b' ≡ b)
+Prints E h xs b b' =
+    let text : List ℕ = printed E h xs in
+    Answers number_of (check 2 (Volume E h xs) (check 20 (length text ≤ length b) end)) (b' ≡ b) (Filled text b b')
 
 -- the lines of every volume tile it, and denote at every sector the place that it resolves to
 abbrev pub PrintsShowPlaces : Entries → Type 0

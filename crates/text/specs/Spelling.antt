@@ -2,7 +2,9 @@
 use Rattle.std.specs.Prelude.{ℕ, ◌^◌, ◌<◌, List, [], ◌∷◌, ◌++◌, length, codes, decimal}
 use Rattle.std.specs.List.{flat_map, AllByRecursion}
 use Rattle.text.specs.declared.spot.Spot.{Spot}
-use Rattle.text.specs.Lines.{Line, line, Mapping, linear, striped, zeroes, errors}
+use Rattle.text.specs.declared.line.Line.{Line}
+use Rattle.text.specs.declared.line.Mapping.{Mapping}
+use Rattle.text.specs.declared.line.Mapping.TheVariants.{Linear as linear, Striped as striped, Zero as zeroes, Error as errors}
 
 -- MAJOR:MINOR
 abbrev pub device_field : Spot → List ℕ
@@ -26,7 +28,7 @@ spaced (f ∷ fs) = 32 ∷ (f ++ spaced fs)
 
 -- START LENGTH and the fields of what is mapped to
 abbrev pub spell : Line → List ℕ
-spell (line a n m) = decimal a ++ spaced (decimal n ∷ mapping_fields m)
+spell l = decimal l.start ++ spaced (decimal l.length ∷ mapping_fields l.mapping)
 
 -- one line after another
 abbrev pub text_of : List Line → List ℕ
@@ -35,6 +37,13 @@ text_of ls = flat_map spell ls
 -- a spot as it stands in a line: a space before each of its fields
 abbrev pub spot_text : Spot → List ℕ
 spot_text s = 32 ∷ (device_field s ++ (32 ∷ decimal s.sector))
+
+-- what a line maps to, as it stands there: a space before each of its fields
+abbrev pub mapping_text : Mapping → List ℕ
+mapping_text (linear s) = (32 ∷ codes "linear") ++ spot_text s
+mapping_text (striped c cols) = (32 ∷ codes "striped") ++ ((32 ∷ decimal (length cols)) ++ ((32 ∷ decimal c) ++ flat_map spot_text cols))
+mapping_text zeroes = 32 ∷ codes "zero"
+mapping_text errors = 32 ∷ codes "error"
 
 -- every number of a spot has 64 bits
 abbrev pub SmallSpot : Spot → Type 0
@@ -49,4 +58,4 @@ SmallMapping errors = Unit {0}
 
 -- every number of a line has 64 bits
 abbrev pub SmallLine : Line → Type 0
-SmallLine (line a n m) = (a < 2 ^ 64) × (n < 2 ^ 64) × SmallMapping m
+SmallLine l = (l.start < 2 ^ 64) × (l.length < 2 ^ 64) × SmallMapping l.mapping

@@ -1,7 +1,10 @@
 -- The lines that an extent goes out in.
 use Rattle.std.specs.Prelude.{ℕ, zero, suc, ◌+◌, ◌-◌, ◌*◌, ◌/◌, ◌%◌, ◌<◌, min, Bool, cond, ◌&&◌, List, [], ◌∷◌, map, length, ◌==◌, nat_le}
 use Rattle.text.specs.declared.spot.Spot.{Spot}
-use Rattle.text.specs.Lines.{Line, line, length_of, Mapping, linear, striped, zeroes, errors, further, stripe}
+use Rattle.text.specs.declared.line.Line.{Line}
+use Rattle.text.specs.declared.line.Mapping.{Mapping}
+use Rattle.text.specs.declared.line.Mapping.TheVariants.{Linear as linear, Striped as striped, Zero as zeroes, Error as errors}
+use Rattle.text.specs.Lines.{line, further, stripe}
 
 -- the sectors of one row of a stripe, over all its columns
 abbrev pub row_size : ℕ → List Spot → ℕ
@@ -33,7 +36,7 @@ abbrev pub lines_by : ℕ → Mapping → ℕ → ℕ → ℕ → List Line
 lines_by zero m o at left = []
 lines_by (suc more) m o at left =
     let l : Line = first_line m o at left in
-    cond (left == 0) [] (l ∷ lines_by more m (o + length_of l) (at + length_of l) (left - length_of l))
+    cond (left == 0) [] (l ∷ lines_by more m (o + l.length) (at + l.length) (left - l.length))
 
 -- All lines of an extent. Each takes at least one sector, so there are at most as many as sectors;
 -- the first line of a linear, zero or error extent takes all of them.

@@ -1,36 +1,23 @@
 -- What the parts of printing take and leave: the first line of an extent, and a walk from line to line.
-use Rattle.std.specs.Prelude.{◌≡◌, ℕ, ◌+◌, ◌-◌, ◌%◌, ◌^◌, ◌<◌, ◌≤◌, List, [], ◌∷◌, ◌++◌, length, drop}
+use Rattle.std.specs.Prelude.{◌≡◌, ℕ, ◌+◌, ◌-◌, ◌^◌, ◌<◌, ◌≤◌, List, [], ◌∷◌, ◌++◌, length}
 use Rattle.table.specs.declared.extent.Slot.{Slot}
 use Rattle.roster.specs.declared.entry.Entries.{Entries}
 use Rattle.roster.specs.declared.entry.SetEntry.{SetEntry}
 use Rattle.roster.specs.declared.target.Target.{Target}
-use Rattle.roster.specs.declared.target.Target.TheVariants.{Zero, Error, Linear, Striped}
-use Rattle.roster.specs.Rosters.{set_at, column_at, span, size_of, Shaped}
-use Rattle.roster.specs.Places.{next, Lawful}
-use Rattle.text.specs.declared.course.Walk.{Walk}
-use Rattle.text.specs.declared.page.Page.{Page}
-use Rattle.text.specs.Lines.{Line, length_of, Mapping}
-use Rattle.text.specs.Pages.{content}
-use Rattle.text.specs.Spelling.{spell, text_of}
-use Rattle.text.specs.Steps.{first_line, extent_lines}
+use Rattle.roster.specs.declared.target.Target.TheVariants.{Linear, Striped}
+use Rattle.roster.specs.Rosters.{column_at, span, Shaped}
+use Rattle.std.specs.Coded.{×_prop, Unit-prop, le_prop}
+use Rattle.roster.specs.Targets.{shift_target}
+use Rattle.table.specs.Extents.{next}
+use Rattle.roster.specs.Places.{Lawful, Fair, HasDevice, HasSet, Below, Touches}
+use Rattle.text.specs.declared.line.Line.{Line}
+use Rattle.text.specs.Steps.{extent_lines}
 use Rattle.text.specs.Printing.{whole_of, offset_of, lines_from}
 
--- a set that keeps its ranges, with every column on a device that can be listed, and below its size
-pub record Usable (e : SetEntry) : Type 0 where
+-- a set that keeps its ranges, with every column on a listed device, and within the limit
+pub record Usable (E : Entries) (e : SetEntry) : Type 0 where
   pub shaped : Shaped e
-  pub housed : (j : ℕ) → j < e.width → ((column_at e j).device < 32) × ((column_at e j).base + span e ≤ 2 ^ 40)
-
--- the device or set of a target can be looked up, and its offset lies in the set
-abbrev pub Ready : Entries → Target → Type 0
-Ready E Zero = Unit {0}
-Ready E Error = Unit {0}
-Ready E (Linear d s) = d < 32
-Ready E (Striped n o) = (n < 16) × Usable (set_at E n) × (o % 2 ^ 64 < size_of (set_at E n))
-
--- the page holds the first line of an extent, and r is how many sectors that line takes
-pub record Writes (m : Mapping) (o at left : ℕ) (p : Page) (r : ℕ) : Type 0 where
-  pub written : content p ≡ spell (first_line m o at left)
-  pub size : r ≡ length_of (first_line m o at left)
+  pub housed : (j : ℕ) → j < e.width → ((column_at e j).device < length E.devices.items) × ((column_at e j).base + span e ≤ 2 ^ 40)
 
 -- the lines from a sector of the first of these extents on
 abbrev pub lines_on : Entries → List (Slot Target) → ℕ → ℕ → List Line
@@ -49,15 +36,40 @@ Goes E [] n = n ≤ 2 ^ 40
 Goes E (s ∷ ss) n =
     (s.start < next ss n) × (next ss n ≤ n) × Lawful E s.value (next ss n - s.start) × Goes E ss n
 
--- the text from a walk's place on
-abbrev pub text_from : Entries → List (Slot Target) → ℕ → Walk → List ℕ
-text_from E xs n w = text_of (lines_on E (drop w.slot xs) n w.at)
+-- one step of the lines: l comes first, and behind it the lines from sector b of the slots ys on
+pub record Steps (E : Entries) (xs : List (Slot Target)) (n at : ℕ) (l : Line) (ys : List (Slot Target)) (b : ℕ) : Type 0 where
+  pub lines : lines_on E xs n at ≡ l ∷ lines_on E ys n b
+  pub goes : Goes E ys n
+  pub within : Within ys n b
 
--- from w to v the page holds the next line, and v lies further on
-pub record Moves (E : Entries) (xs : List (Slot Target)) (n : ℕ) (w v : Walk) (p : Page) : Type 0 where
-  pub text : text_from E xs n w ≡ content p ++ text_from E xs n v
-  pub ahead : w.at < v.at
-  pub start : w.at < n
-  pub room : v.slot ≤ length xs
-  pub goes : Goes E (drop v.slot xs) n
-  pub within : Within (drop v.slot xs) n v.at
+-- each of these facts has one proof at most, so that a struct can hold it
+module _ (E : Entries) where
+  Device-prop : (t : Target) → IsProp (HasDevice E t)
+  Device-prop (Linear d s) = le_prop
+  Device-prop _ = Unit-prop
+
+  Set-prop : (t : Target) → IsProp (HasSet E t)
+  Set-prop (Striped n o) = le_prop
+  Set-prop _ = Unit-prop
+
+  Below-prop : (t : Target) → IsProp (Below E t)
+  Below-prop (Linear d s) = le_prop
+  Below-prop (Striped n o) = le_prop
+  Below-prop _ = Unit-prop
+
+  Fair-prop : (t : Target) → IsProp (Fair E t)
+  Fair-prop t x y =
+      let apart : (h : Touches E t) → x.3 h ≡ y.3 h = λ h. absurd (x.3 h) in
+      λ i. (Device-prop t x.0 y.0 i, Set-prop t x.1 y.1 i, Below-prop t x.2 y.2 i, λ h. apart h i)
+
+  Lawful-prop : (t : Target) (n : ℕ) → IsProp (Lawful E t n)
+  Lawful-prop t n x y = λ i k less. Fair-prop (shift_target t k) (x k less) (y k less) i
+
+  pub Goes-prop : (xs : List (Slot Target)) (n : ℕ) → IsProp (Goes E xs n)
+  Goes-prop [] n x y = le_prop x y
+  Goes-prop (s ∷ ss) n x y =
+      λ i. (le_prop x.0 y.0 i, le_prop x.1 y.1 i, Lawful-prop s.value (next ss n - s.start) x.2 y.2 i, Goes-prop ss n x.3 y.3 i)
+
+pub Within-prop : (xs : List (Slot Target)) (n at : ℕ) → IsProp (Within xs n at)
+Within-prop [] n at = Unit-prop
+Within-prop (s ∷ ss) n at = ×_prop le_prop le_prop

@@ -3,22 +3,16 @@ ghost use Rattle.std.specs.Prelude.{◌≡◌};
 ghost use Rattle.text.specs.declared.refusal.TextRefusal.TheVariants.{Roster};
 ghost use Rattle.text.specs.Refusals.{number_of, layer_of};
 
-use roster::refusal::{Layer as LowerLayer, RosterRefusal};
+use roster::refusal::RosterRefusal;
+pub use table::refusal::Layer;
+use thiserror::Error;
 
-#[derive(Clone, Copy, Debug)]
+#[derive(Clone, Copy, Debug, PartialEq, Eq, Error)]
 pub enum TextRefusal {
-    // The roster below, or the table below it, says no.
+    #[error("{0}")]
     Roster(RosterRefusal),
-    // The text is longer than the buffer.
+    #[error("the text is longer than the buffer")]
     TooLong,
-}
-
-// The part of the compiler that a refusal comes from.
-#[derive(Clone, Copy, Debug)]
-pub enum Layer {
-    Table,
-    Roster,
-    Text,
 }
 
 impl From<RosterRefusal> for TextRefusal {
@@ -45,10 +39,7 @@ impl TextRefusal {
         ensures { result ≡ layer_of self }
     {
         match self {
-            TextRefusal::Roster(refusal) => match refusal.layer() {
-                LowerLayer::Table => Layer::Table,
-                LowerLayer::Roster => Layer::Roster,
-            },
+            TextRefusal::Roster(refusal) => refusal.layer(),
             TextRefusal::TooLong => Layer::Text,
         }
     }

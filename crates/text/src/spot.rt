@@ -1,6 +1,6 @@
 // A device by its numbers, and a sector on it.
 
-#[derive(Clone, Copy)]
+#[derive(Clone, Copy, Debug, Default, PartialEq, Eq)]
 pub struct Spot {
     pub major: u64,
     pub minor: u64,

@@ -2,29 +2,18 @@
 use roster::refusal::RosterRefusal;
 use std::io;
 use text::refusal::TextRefusal;
+use thiserror::Error;
 
-#[derive(Drop)]
+#[derive(Debug, Drop, Error)]
 pub enum Failure {
-    // A call that the task needs says no.
-    Refused(TextRefusal),
-    // The output cannot be written.
-    Output(io::Error),
+    #[error("a step that the task needs was refused")]
+    Refused(#[from] TextRefusal),
+    #[error("the output could not be written")]
+    Output(#[from] io::Error),
 }
 
 impl From<RosterRefusal> for Failure {
     fn from(refusal: RosterRefusal) -> Failure {
         Failure::Refused(TextRefusal::Roster(refusal))
-    }
-}
-
-impl From<TextRefusal> for Failure {
-    fn from(refusal: TextRefusal) -> Failure {
-        Failure::Refused(refusal)
-    }
-}
-
-impl From<io::Error> for Failure {
-    fn from(error: io::Error) -> Failure {
-        Failure::Output(error)
     }
 }
