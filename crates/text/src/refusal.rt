@@ -18,8 +18,8 @@ pub enum TextRefusal {
 impl From<RosterRefusal> for TextRefusal {
     ghost from_gives = { λ e f. f ≡ Roster e };
 
-    fn from(refusal: RosterRefusal) -> TextRefusal {
-        TextRefusal::Roster(refusal)
+    fn from(below: RosterRefusal) -> TextRefusal {
+        TextRefusal::Roster(below)
     }
 }
 

@@ -14,6 +14,6 @@ pub enum Failure {
 
 impl From<RosterRefusal> for Failure {
     fn from(refusal: RosterRefusal) -> Failure {
-        Failure::Refused(TextRefusal::Roster(refusal))
+        Failure::Refused(refusal.into())
     }
 }
