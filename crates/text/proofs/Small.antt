@@ -9,19 +9,16 @@ use Rattle.text.specs.declared.spot.Spot.{Spot}
 use Rattle.text.specs.declared.line.Mapping.{Mapping}
 use Rattle.text.specs.declared.line.Mapping.TheVariants.{Linear as linear, Striped as striped, Zero as zeroes, Error as errors}
 use Rattle.text.specs.Lines.{further, nowhere}
-use Rattle.text.specs.Spelling.{SmallSpot, SmallLine}
+use Rattle.text.specs.Spelling.{SpotBelow, MappingBelow, SmallSpot, SmallLine}
 use Rattle.text.specs.Steps.{row_size, whole_rows, rows_line, chunk_line, first_line, lines_by, extent_lines, Proper}
 use Rattle.text.proofs.Stepping.{first_plain}
 
 -- numbers so low that offsets can be added to them
 abbrev pub Low : Spot → Type 0
-Low s = (s.major < 2 ^ 60) × (s.minor < 2 ^ 60) × (s.sector < 2 ^ 60)
+Low = SpotBelow (2 ^ 60)
 
 abbrev pub Modest : Mapping → Type 0
-Modest (linear s) = Low s
-Modest (striped c cols) = (length cols < 2 ^ 60) × (c < 2 ^ 60) × AllByRecursion Low cols
-Modest zeroes = Unit {0}
-Modest errors = Unit {0}
+Modest = MappingBelow (2 ^ 60)
 
 small_further : (k : ℕ) (s : Spot) → k < 2 ^ 60 → Low s → SmallSpot (further k s)
 small_further k s few low = (omega arith, omega arith, omega arith)

@@ -45,16 +45,24 @@ mapping_text (striped c cols) = (32 ∷ codes "striped") ++ ((32 ∷ decimal (le
 mapping_text zeroes = 32 ∷ codes "zero"
 mapping_text errors = 32 ∷ codes "error"
 
+-- every number of a spot is below a bound
+abbrev pub SpotBelow : ℕ → Spot → Type 0
+SpotBelow b s = (s.major < b) × (s.minor < b) × (s.sector < b)
+
+-- every number of a mapping is below a bound
+abbrev pub MappingBelow : ℕ → Mapping → Type 0
+MappingBelow b (linear s) = SpotBelow b s
+MappingBelow b (striped c cols) = (length cols < b) × (c < b) × AllByRecursion (SpotBelow b) cols
+MappingBelow b zeroes = Unit {0}
+MappingBelow b errors = Unit {0}
+
 -- every number of a spot has 64 bits
 abbrev pub SmallSpot : Spot → Type 0
-SmallSpot s = (s.major < 2 ^ 64) × (s.minor < 2 ^ 64) × (s.sector < 2 ^ 64)
+SmallSpot = SpotBelow (2 ^ 64)
 
 -- every number of a mapping has 64 bits
 abbrev pub SmallMapping : Mapping → Type 0
-SmallMapping (linear s) = SmallSpot s
-SmallMapping (striped c cols) = (length cols < 2 ^ 64) × (c < 2 ^ 64) × AllByRecursion SmallSpot cols
-SmallMapping zeroes = Unit {0}
-SmallMapping errors = Unit {0}
+SmallMapping = MappingBelow (2 ^ 64)
 
 -- every number of a line has 64 bits
 abbrev pub SmallLine : Line → Type 0

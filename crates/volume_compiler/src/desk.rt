@@ -19,7 +19,7 @@ pub struct Desk<'a> {
 
 impl Desk<'_> {
     // Makes a call on a volume, and says whether it was accepted.
-    pub fn edit(
+    pub(crate) fn edit(
         &self,
         volume: &mut Table<'_, Target>,
         what: &str,
@@ -41,7 +41,7 @@ impl Desk<'_> {
     }
 
     // A step and whether it was accepted: WHAT: accepted, or WHAT: refused NUMBER LAYER.
-    pub fn outcome(&self, what: &str, answer: Result<(), RosterRefusal>) -> io::Result<()> {
+    pub(crate) fn outcome(&self, what: &str, answer: Result<(), RosterRefusal>) -> io::Result<()> {
         let rt = self.rt;
         let Err(refusal) = answer else {
             return println!(rt; "{what}: accepted");
@@ -52,7 +52,7 @@ impl Desk<'_> {
     }
 
     // Says what a volume holds: its name, and its device-mapper table.
-    pub fn show(&self, volume: &View<'_, Target>, name: &str) -> Result<(), Failure> {
+    pub(crate) fn show(&self, volume: &View<'_, Target>, name: &str) -> Result<(), Failure> {
         let rt = self.rt;
         let mut buffer = [0u8; 1024];
         let count = print(&self.roster, volume, &mut buffer)?;
@@ -62,7 +62,7 @@ impl Desk<'_> {
     }
 
     // Where a sector of a volume lies: NAME SECTOR: MAJOR:MINOR SECTOR, zero or error.
-    pub fn locate(
+    pub(crate) fn locate(
         &self,
         volume: &View<'_, Target>,
         name: &str,

@@ -4,7 +4,7 @@ use roster::closed::ClosedRoster;
 use roster::entry::Column;
 use roster::open::OpenRoster;
 
-pub fn describe(rt: &HostRuntime) -> Result<ClosedRoster, Failure> {
+pub(crate) fn describe(rt: &HostRuntime) -> Result<ClosedRoster, Failure> {
     let mut open = OpenRoster::new();
     let first = open.add_device(8, 0, 4096)?;
     println!(rt; "device 8:0 of 4096 sectors is number {first}")?;

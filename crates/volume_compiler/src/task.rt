@@ -106,7 +106,7 @@ impl Desk<'_> {
     }
 }
 
-pub fn work(rt: &HostRuntime) -> Result<(), Failure> {
+pub(crate) fn work(rt: &HostRuntime) -> Result<(), Failure> {
     let desk = Desk {
         rt,
         roster: shelf::describe(rt)?,
