@@ -42,7 +42,7 @@ module _ {V : Type 0} (xs : List (Slot V)) (count : ℕ) (p : Plan V) (m t many 
       ∙ ap (λ (l : List (Slot V)). take p.front xs ++ l) (append_assoc (option_to_list p.middle) (option_to_list p.tail) kept_back)
       ∙ ap (λ (l : List (Slot V)). take p.front xs ++ (option_to_list p.middle ++ (option_to_list p.tail ++ l))) behind
 
-  planned_length : p.front ≤ length xs → total ≡ length (planned xs count p)
+  pub planned_length : p.front ≤ length xs → total ≡ length (planned xs count p)
   planned_length front =
       let rest : length (drop p.back xs) ≡ length xs - p.back = length-drop p.back xs in
       let kept : length kept_back ≡ many = length-take-le many (drop p.back xs) (omega arith) in

@@ -6,7 +6,8 @@ use Rattle.table.specs.declared.extent.Slot.{Slot}
 use Rattle.table.specs.declared.refusal.Refusal.{Refusal}
 use Rattle.table.specs.Extents.{Normal}
 use Rattle.table.specs.Maps.{Map, Agree, Writes, appended, assigned, over}
-use Rattle.table.specs.Calls.{map_of, Appends, Assigns, Cuts, Overlays}
+use Rattle.table.specs.Checks.{Checks, check, untold}
+use Rattle.table.specs.Calls.{map_of, AppendsBy, AssignsBy, Cuts, OverlaysBy}
 
 -- two lists of counted slots differ in no slot
 abbrev pub SameSlots : {V : Type 0} → (V → V → Bool) → List (Slot V) → List (Slot V) → Type 0
@@ -56,18 +57,26 @@ abbrev pub fresh_head : Head
 fresh_head = record { count = 0; length = 0 }
 
 module _ {V : Type 0} (shift : V → ℕ → V) (same : V → V → Bool) (clear : V → Bool) where
+  -- how the check of room is told of
+  module _ (room : ℕ → Type 0 → Checks → Checks) where
+    abbrev pub DoesBy : Call V → Head → List (Slot V) → Head → List (Slot V) → Result (Unit {0}) Refusal → Type 0
+    DoesBy (append l v) h xs h' xs' r = AppendsBy shift same room h xs l v h' xs' r
+    DoesBy (assign run v) h xs h' xs' r = AssignsBy shift same room h xs run v h' xs' r
+    DoesBy (cut n) h xs h' xs' r = Cuts shift same h xs n h' xs' r
+    DoesBy (overlay t tops b bases) h xs h' xs' r = OverlaysBy shift same room clear t tops b bases h xs h' xs' r
+
+    abbrev pub RanBy : List (Call V × Result (Unit {0}) Refusal) → Head → List (Slot V) → Head → List (Slot V) → Type 0
+    RanBy [] h xs h' xs' = (h' ≡ h) × (xs' ≡ xs)
+    RanBy (c ∷ cs) h xs h' xs' =
+        (k : Head) × (ys : List (Slot V)) × DoesBy c.0 h xs k ys c.1 × RanBy cs k ys h' xs'
+
   -- a call does what its contract says
   abbrev pub Does : Call V → Head → List (Slot V) → Head → List (Slot V) → Result (Unit {0}) Refusal → Type 0
-  Does (append l v) h xs h' xs' r = Appends shift same h xs l v h' xs' r
-  Does (assign run v) h xs h' xs' r = Assigns shift same h xs run v h' xs' r
-  Does (cut n) h xs h' xs' r = Cuts shift same h xs n h' xs' r
-  Does (overlay t tops b bases) h xs h' xs' r = Overlays shift same clear t tops b bases h xs h' xs' r
+  Does = DoesBy check
 
   -- calls done one after the other, each with what it gave
   abbrev pub Ran : List (Call V × Result (Unit {0}) Refusal) → Head → List (Slot V) → Head → List (Slot V) → Type 0
-  Ran [] h xs h' xs' = (h' ≡ h) × (xs' ≡ xs)
-  Ran (c ∷ cs) h xs h' xs' =
-      (k : Head) × (ys : List (Slot V)) × Does c.0 h xs k ys c.1 × Ran cs k ys h' xs'
+  Ran = RanBy check
 
   -- a table holds a map: it is normal, as long, and agrees at every sector
   pub record Holds (m : Mapped V) (h : Head) (xs : List (Slot V)) : Type 0 where
@@ -85,17 +94,19 @@ module _ {V : Type 0} (shift : V → ℕ → V) (same : V → V → Bool) (clear
       (h k : Head) (xs ys : List (Slot V)) → Normal shift same h xs → Normal shift same k ys → h.length ≡ k.length →
       (SameTables same h xs k ys → Agree same (map_of shift h xs) (map_of shift k ys) h.length) × (Agree same (map_of shift h xs) (map_of shift k ys) h.length → SameTables same h xs k ys)
 
-  -- After any calls, refused ones included, a table that began fresh holds the calls' map.
+  -- After any calls, refused ones included, a table that began fresh holds the calls' map. Whether an accepted call's result
+  -- fits the row is not asked.
   abbrev pub Histories : Type 0
-  Histories = (cs : List (Call V × Result (Unit {0}) Refusal)) (xs : List (Slot V)) (h' : Head) (xs' : List (Slot V)) → Ran cs fresh_head xs h' xs' → Holds (after shift clear cs fresh) h' xs'
+  Histories = (cs : List (Call V × Result (Unit {0}) Refusal)) (xs : List (Slot V)) (h' : Head) (xs' : List (Slot V)) → RanBy untold cs fresh_head xs h' xs' → Holds (after shift clear cs fresh) h' xs'
 
   -- Two assigns whose runs share no sector, given to two copies of a table in both orders: if all four are accepted, the copies differ in no slot.
+  -- Whether the results fit the rows is not asked.
   abbrev pub Commute : Type 0
   Commute =
       (p q : Run) (v w : V) → ((i : ℕ) → In p i → In q i → ⊥) →
       (h h₁ h₂ k k₁ k₂ : Head) (xs xs₁ xs₂ ys ys₁ ys₂ : List (Slot V)) → h.length ≡ k.length → SameTables same h xs k ys →
-      Assigns shift same h xs p v h₁ xs₁ (Ok tt) → Assigns shift same h₁ xs₁ q w h₂ xs₂ (Ok tt) →
-      Assigns shift same k ys q w k₁ ys₁ (Ok tt) → Assigns shift same k₁ ys₁ p v k₂ ys₂ (Ok tt) → SameTables same h₂ xs₂ k₂ ys₂
+      AssignsBy shift same untold h xs p v h₁ xs₁ (Ok tt) → AssignsBy shift same untold h₁ xs₁ q w h₂ xs₂ (Ok tt) →
+      AssignsBy shift same untold k ys q w k₁ ys₁ (Ok tt) → AssignsBy shift same untold k₁ ys₁ p v k₂ ys₂ (Ok tt) → SameTables same h₂ xs₂ k₂ ys₂
 
   -- the laws of tables
   pub record TableLaws : Type 0 where

@@ -1,5 +1,6 @@
 // The call that gives a run of a table another value.
-ghost use Rattle.std.specs.Prelude.{◌+◌, ◌<◌, ◌≤◌, length};
+ghost use Rattle.std.specs.Prelude.{◌≡◌, ◌+◌, ◌<◌, ◌≤◌, length};
+ghost use Rattle.table.specs.Extents.{before};
 ghost use Rattle.table.specs.Calls.{Assigns};
 ghost use Rattle.table.specs.Rows.{SameRow};
 ghost use Rattle.table.specs.Steps.{Behind, Plans};
@@ -13,7 +14,9 @@ use crate::table::Table;
 
 impl<'a, V: Value> Extents<'a, V> {
     // The slot that begins behind a run that is given a value, or none where the run goes on with what is there.
-    fn slot_behind(&self, run: Run, value: V) -> Option<Slot<V>>
+    // So many slots start at the run's end or below it.
+    fn slot_behind(&self, count: usize, run: Run, value: V) -> Option<Slot<V>>
+        requires counted { count ≡ before (run.start + run.length + 1) self.now.slots.now }
         requires filled { 0 < run.length }
         requires inside { run.start + run.length ≤ self.now.length }
         ensures { Behind V.shift V.same self.now.length self.now.slots.now run value result }
@@ -22,7 +25,7 @@ impl<'a, V: Value> Extents<'a, V> {
         if start >= self.length {
             return None;
         }
-        let rest = self.extent_at(start).value_at(start);
+        let rest = self.extent_of(count, start).value_at(start);
         slot_at(Some(value.shifted(run.length)), start, rest)
     }
 
@@ -36,9 +39,9 @@ impl<'a, V: Value> Extents<'a, V> {
     {
         let end = run.start + run.length;
         let front = self.count_before(run.start);
-        let middle = self.slot_from(run.start, value);
+        let middle = self.slot_from(front, run.start, value);
         let back = self.count_before(end + 1);
-        let tail = self.slot_behind(run, value);
+        let tail = self.slot_behind(back, run, value);
         Plan {
             front,
             middle,

@@ -63,7 +63,7 @@ impl<'a, V: Value> Table<'a, V> {
         if length > LIMIT - end {
             return Err(Refusal::PastLimit);
         }
-        let next = extents.slot_from(end, value);
+        let next = extents.slot_from(extents.count_before(end), end, value);
         let plan = Plan {
             front: self.head.count,
             middle: next,

@@ -1,5 +1,5 @@
 // The counted slots of a table that is normal.
-ghost use Rattle.std.specs.Prelude.{◌≡◌, ℕ, ◌≤◌, ◌<◌, ◌↔◌, ◌^◌, length, take, IsSome, IfSome};
+ghost use Rattle.std.specs.Prelude.{◌≡◌, ℕ, ◌+◌, ◌≤◌, ◌<◌, ◌↔◌, ◌^◌, length, take, IsSome, IfSome};
 ghost use Rattle.table.specs.Steps.{Told, Next};
 ghost use Rattle.table.specs.Extents.{Covers, Covers-prop, Distinct, Distinct-prop, Normal, at, before, value_at};
 
@@ -25,35 +25,52 @@ impl<'a, V: Value> Extents<'a, V> {
         self.slots.partition_point(|slot| slot.start < sector)
     }
 
-    // The slot whose extent holds a sector.
+    // The slot whose extent holds a sector, by how many slots start at it or below it.
+    #[inline(always)]
+    pub(crate) fn extent_of(&self, count: usize, sector: u64) -> Slot<V>
+        requires counted { count ≡ before (sector + 1) self.now.slots.now }
+        requires inside { sector < self.now.length }
+        ensures starts { result.start ≤ sector }
+        ensures value { (d : V) → value_at V.shift result sector ≡ at V.shift self.now.slots.now d sector }
+    {
+        let slots = self.slots;
+        slots[count - 1]
+    }
+
+    // The same where they are not counted yet.
+    #[inline(always)]
     pub(crate) fn extent_at(&self, sector: u64) -> Slot<V>
         requires { sector < self.now.length }
         ensures starts { result.start ≤ sector }
         ensures value { (d : V) → value_at V.shift result sector ≡ at V.shift self.now.slots.now d sector }
     {
-        let k = self.count_before(sector + 1);
-        let slots = self.slots;
-        slots[k - 1]
+        let count = self.count_before(sector + 1);
+        self.extent_of(count, sector)
     }
 
     // The value with which the extent before a sector, or before the end, goes on there; none at sector 0.
+    // So many slots start below it.
     #[tactic(auto, using(crate::proofs::Ends::last_tells))]
-    fn told_at(&self, start: u64) -> Option<V>
-        requires { start ≤ self.now.length }
+    fn told_at(&self, count: usize, start: u64) -> Option<V>
+        requires counted { count ≡ before start self.now.slots.now }
+        requires inside { start ≤ self.now.length }
         ensures { (d : V) → Told V.shift V.same (at V.shift self.now.slots.now d) start result }
     {
         if start == 0 {
             return None;
         }
-        Some(self.extent_at(start - 1).value_at(start))
+        Some(self.extent_of(count, start - 1).value_at(start))
     }
 
     // The slot that a value begins at a sector or at the end, or none where the extent before goes on with it.
-    pub(crate) fn slot_from(&self, start: u64, value: V) -> Option<Slot<V>>
-        requires { start ≤ self.now.length }
+    // So many slots start below it.
+    #[inline(always)]
+    pub(crate) fn slot_from(&self, count: usize, start: u64, value: V) -> Option<Slot<V>>
+        requires counted { count ≡ before start self.now.slots.now }
+        requires inside { start ≤ self.now.length }
         ensures { (d : V) → Next V.shift V.same (at V.shift self.now.slots.now d) start value result }
     {
-        slot_at(self.told_at(start), start, value)
+        slot_at(self.told_at(count, start), start, value)
     }
 }
 
@@ -69,6 +86,7 @@ pub(crate) fn slot_at<V: Value>(told: Option<V>, start: u64, value: V) -> Option
 
 impl<'a, V: Value> View<'a, V> {
     // The counted slots, if the table is normal.
+    #[inline(always)]
     pub(crate) fn extents(&self) -> Option<Extents<'a, V>>
         ensures normal { IsSome result ↔ Normal V.shift V.same self.now.head self.now.slots.now }
         ensures slots { IfSome result (λ e. e.slots.now ≡ take self.now.head.count self.now.slots.now) }
@@ -86,6 +104,7 @@ impl<'a, V: Value> View<'a, V> {
 
 impl<'a, V: Value> Table<'a, V> {
     // The same of a table that is written.
+    #[inline(always)]
     pub(crate) fn extents(&self) -> Option<Extents<'_, V>>
         ensures normal { IsSome result ↔ Normal V.shift V.same self.now.head self.now.slots.now }
         ensures slots { IfSome result (λ e. e.slots.now ≡ take self.now.head.count self.now.slots.now) }

@@ -117,7 +117,6 @@ impl<'a, V: Value> Table<'a, V> {
         requires few { length (slots_of V.shift V.same V.clear pieces) < 2 ^ 64 }
         ensures done { OnOk result ((self.new.head.length ≡ pieces.entry.length) × Splices self.old.slots.now (slots_of V.shift V.same V.clear pieces.entry) self.new.slots.now self.new.head.count) }
         ensures full { IfErr result (λ e. (e ≡ Refusal.NoRoom) × (self.new.head ≡ self.old.head) × (self.new.slots.now ≡ self.old.slots.now) × (length self.old.slots.now < length (slots_of V.shift V.same V.clear pieces.entry))) }
-        ensures row { length self.new.slots.now ≡ length self.old.slots.now }
         ensures same_row { SameRow self.old self.new }
     {
         let count = pieces.slots().count();

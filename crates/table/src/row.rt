@@ -33,13 +33,13 @@ fn place<V: Value>(slots: &mut [Slot<V>], at: usize, slot: Option<Slot<V>>)
 
 impl<'a, V: Value> Table<'a, V> {
     // Makes the table what the plan says, or changes nothing where the row has no room for it.
+    #[inline(always)]
     pub(crate) fn splice(&mut self, plan: Plan<V>) -> Result<(), Refusal>
         requires front { plan.front ≤ plan.back }
         requires back { plan.back ≤ self.old.head.count }
         requires room { self.old.head.count ≤ length self.old.slots.now }
         ensures done { OnOk result ((self.new.head.length ≡ plan.length) × Splices self.old.slots.now (planned self.old.slots.now self.old.head.count plan) self.new.slots.now self.new.head.count) }
         ensures full { IfErr result (λ e. (e ≡ Refusal.NoRoom) × (self.new.head ≡ self.old.head) × (self.new.slots.now ≡ self.old.slots.now) × (length self.old.slots.now < length (planned self.old.slots.now self.old.head.count plan))) }
-        ensures row { length self.new.slots.now ≡ length self.old.slots.now }
         ensures same_row { SameRow self.old self.new }
     {
         let middle = plan.front + usize::from(plan.middle.is_some());

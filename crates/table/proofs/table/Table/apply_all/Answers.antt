@@ -1,4 +1,4 @@
-use Rattle.std.proofs.Common.{◌∙◌, arith}
+use Rattle.std.proofs.Common.{◌∙◌, arith, rules}
 use Rattle.std.proofs.lemmas.List.{length-take-le, get_or-take}
 use Rattle.table.proofs.Replays.{calls_all, ran_more, behind_kept}
 use Rattle.table.proofs.table.Table.apply_all.Goals as goal
@@ -14,7 +14,7 @@ loop-i-preserved g c =
           ran_more k.shift k.same k.clear es c.loop-i.answers c.loop-i.i e c.apply.result c.args.self.now.head c.loop-i.self.head c.args.self.now.slots.now c.loop-i.self.slots.now c.apply.new.self.head c.apply.new.self.slots.now
           (omega arith) (omega arith) (c.edit-item.is ∙ get_or-take c.min-many.result es c.loop-i.i e (omega arith)) c.loop-i.invariant.ran c.apply.ensures.does;
       rest = behind_kept c.loop-i.answers c.args.answers.now c.loop-i.i c.apply.result c.loop-i.invariant.rest;
-      same_row = cc;
+      same_row = search rules;
     }
 
 pub returns-clause-ran : goal.returns-clause-ran
