@@ -1,3 +1,4 @@
+pub mod Listings
 pub mod Areas
 pub mod Added
 pub mod Stripes

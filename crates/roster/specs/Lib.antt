@@ -1,3 +1,4 @@
+pub mod Listings
 pub mod Targets
 pub mod Rosters
 pub mod Places

@@ -1,8 +1,8 @@
 // What a roster lists, as plain numbers.
-ghost use Rattle.std.specs.Prelude.{◌≡◌, ◌<◌, ◌≤◌, length, take, MatchOption};
+ghost use Rattle.std.specs.Prelude.{◌≡◌, ◌<◌, ◌≤◌, length, take, replicate, MatchOption};
 ghost use Rattle.roster.specs.Rosters.{device_at};
 
-use arrayvec::ArrayVec;
+use crate::listing::{Blank, Listing};
 
 // A block device by its kernel numbers, with its size in sectors.
 #[derive(Clone, Copy, Debug, Default, PartialEq, Eq)]
@@ -10,6 +10,14 @@ pub struct Device {
     pub major: u32,
     pub minor: u32,
     pub size: u64,
+}
+
+impl Blank for Device {
+    ghost blank = { record { major = 0; minor = 0; size = 0 } };
+
+    fn blank() -> Self {
+        Device::default()
+    }
 }
 
 // A column of a stripe set: its area begins at sector `base` of the device with that number in the roster.
@@ -29,6 +37,14 @@ pub struct SetEntry {
     pub columns: [Column; 8],
 }
 
+impl Blank for SetEntry {
+    ghost blank = { record { width = 0; chunk = 0; rows = 0; columns = replicate 8 (record { device = 0; base = 0 }) } };
+
+    fn blank() -> Self {
+        SetEntry::default()
+    }
+}
+
 impl SetEntry {
     // The columns that count.
     pub fn counted(&self) -> &[Column]
@@ -40,10 +56,10 @@ impl SetEntry {
 }
 
 // The devices and the sets that are listed, each by its place.
-#[derive(Debug, Drop, PartialEq, Eq)]
+#[derive(Clone, Copy, Debug, PartialEq, Eq)]
 pub struct Entries {
-    pub devices: ArrayVec<Device, 32>,
-    pub sets: ArrayVec<SetEntry, 16>,
+    pub devices: Listing<Device, 32>,
+    pub sets: Listing<SetEntry, 16>,
 }
 
 impl Entries {

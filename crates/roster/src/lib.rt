@@ -7,6 +7,7 @@ pub mod closed;
 mod edit;
 pub mod entry;
 mod lawful;
+pub mod listing;
 pub mod open;
 pub mod place;
 pub mod refusal;

@@ -5,9 +5,9 @@ ghost use Rattle.roster.specs.Additions.{AddsDevice, AddsSet, nothing};
 
 use crate::closed::{Closed, ClosedRoster};
 use crate::entry::{Column, Device, Entries};
+use crate::listing::Listing;
 use crate::refusal::RosterRefusal;
 use crate::roster::Roster;
-use arrayvec::ArrayVec;
 
 #[derive(Clone, Copy, Debug, PartialEq, Eq)]
 pub struct Open;
@@ -22,8 +22,8 @@ impl OpenRoster {
         Roster {
             state: Open,
             entries: Entries {
-                devices: ArrayVec::new(),
-                sets: ArrayVec::new(),
+                devices: Listing::new(),
+                sets: Listing::new(),
             },
         }
     }
