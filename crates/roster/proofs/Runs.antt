@@ -31,7 +31,7 @@ module _ (E : Entries) (d s l : ℕ) where
   abbrev pub run_of : Area
   run_of = record { device = d; from = s; to = s + l }
 
-  clears_from : s + l ≤ 2 ^ 40 → AllClear E run_of → Clears E (Linear d s) l
+  pub clears_from : s + l ≤ 2 ^ 40 → AllClear E run_of → Clears E (Linear d s) l
   clears_from small clear k lt o =
       let e : (s + k) % 2 ^ 64 ≡ s + k = mod-eq_of_lt (omega arith) in
       let h = o.holds in

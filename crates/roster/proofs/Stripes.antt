@@ -21,7 +21,7 @@ module _ (e : SetEntry) (shaped : Shaped e) where
   rest_below : (o : ℕ) → o % e.chunk < e.chunk
   rest_below o = mod_below o e.chunk (omega (arith, shaped.2))
 
-  row_below : (o : ℕ) → o < size_of e → row_of e o < e.rows
+  pub row_below : (o : ℕ) → o < size_of e → row_of e o < e.rows
   row_below o h =
       div_below (o / e.chunk) e.width e.rows (omega (arith, shaped.0))
       (div_below o e.chunk (e.rows * e.width) (omega (arith, shaped.2)) (omega (arith, turned e.width e.chunk e.rows)))
@@ -51,10 +51,10 @@ module _ (e : SetEntry) (shaped : Shaped e) where
       ∙ div-add-mod' p e.chunk
 
   module _ (bounded : Bounded e) where
-    span_bounded : span e ≤ 2 ^ 40
+    pub span_bounded : span e ≤ 2 ^ 40
     span_bounded = omega (arith, bounded 0 (omega (arith, shaped.0)))
 
-    size_bounded : size_of e ≤ 8 * 2 ^ 40
+    pub size_bounded : size_of e ≤ 8 * 2 ^ 40
     size_bounded = mul-le e.width (span e) 8 (2 ^ 40) shaped.1 span_bounded
 
 -- a stripe, and a stripe set, is no larger than eight devices, by what its ghost fields say

@@ -6,6 +6,8 @@ use Rattle.table.specs.declared.extent.Run.{Run}
 use Rattle.table.specs.Checks.{Answers, check, end}
 use Rattle.table.specs.Maps.{Map, Fits, appended, assigned, over}
 use Rattle.table.specs.Calls.{map_of, Leaves, Kept}
+use Rattle.table.specs.Laws.{Call}
+use Rattle.table.specs.Laws.Call.{append, assign, cut, overlay}
 use Rattle.roster.specs.declared.entry.Entries.{Entries}
 use Rattle.roster.specs.declared.place.Place.{Place}
 use Rattle.roster.specs.declared.refusal.RosterRefusal.{RosterRefusal}
@@ -49,6 +51,13 @@ module _ (E : Entries) where
       let n : ℕ = t.length in
       Answers number_of (check 2 (Volume E t tops × Volume E b bases) (check 9 (t.length ≡ b.length) (check 11 (Fits shift_target same_target m n (length xs)) end)))
       (Kept shift_target same_target h xs h' xs') (λ _. Makes m n xs h' xs') r
+
+  -- a call on a volume does what its contract says
+  abbrev pub DoesVolume : Call Target → Head → List (Slot Target) → Head → List (Slot Target) → Result (Unit {0}) RosterRefusal → Type 0
+  DoesVolume (append l t) h xs h' xs' r = AppendsVolume h xs l t h' xs' r
+  DoesVolume (assign run t) h xs h' xs' r = AssignsVolume h xs run t h' xs' r
+  DoesVolume (cut n) h xs h' xs' r = CutsVolume h xs n h' xs' r
+  DoesVolume (overlay t tops b bases) h xs h' xs' r = OverlaysVolume t tops b bases h xs h' xs' r
 
   -- where a sector of a volume lies
   abbrev pub Locates : Head → List (Slot Target) → ℕ → Result Place RosterRefusal → Type 0

@@ -1,13 +1,15 @@
 // The calls on volumes under a closed roster.
 ghost use Rattle.std.specs.Prelude.{◌≡◌};
+ghost use Rattle.table.specs.Histories.{call_of};
 ghost use Rattle.table.specs.Rows.{SameRow};
-ghost use Rattle.roster.specs.Volumes.{AppendsVolume, AssignsVolume, CutsVolume, OverlaysVolume, Locates};
+ghost use Rattle.roster.specs.Volumes.{AppendsVolume, AssignsVolume, CutsVolume, OverlaysVolume, DoesVolume, Locates};
 
 use crate::closed::ClosedRoster;
 use crate::place::Place;
 use crate::refusal::RosterRefusal;
 use crate::target::Target;
 use table::extent::Run;
+use table::history::Edit;
 use table::normal::LIMIT;
 use table::refusal::Refusal;
 use table::table::{Table, View};
@@ -81,6 +83,28 @@ impl ClosedRoster {
         self.judge_volume(base)?;
         volume.overlay(top, base)?;
         Ok(())
+    }
+
+    // Makes one call on a volume.
+    pub fn apply(
+        &self,
+        volume: &mut Table<'_, Target>,
+        edit: &Edit<'_, Target>,
+    ) -> Result<(), RosterRefusal>
+        ensures does { DoesVolume self.now.entries (call_of edit.now) volume.old.head volume.old.slots.now volume.new.head volume.new.slots.now result }
+        ensures same_row { SameRow volume.old volume.new }
+    {
+        match *edit {
+            Edit::Append { length, value } => self.append(volume, length, value),
+            Edit::Assign { run, value } => self.assign(volume, run, value),
+            Edit::Cut { length } => {
+                let mut view = volume.view();
+                let answer = self.cut(&mut view, length);
+                volume.head = view.head;
+                answer
+            }
+            Edit::Overlay { top, base } => self.overlay(volume, &top, &base),
+        }
     }
 
     // Where a sector of a volume lies.

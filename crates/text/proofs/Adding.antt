@@ -74,7 +74,7 @@ module _ {X : Type 0} (f : X → List ℕ) (xs : List X) (i : ℕ) {p q : Writer
       room_then h (f (get_or xs i d)) (rw one (omega (arith, whole, room)))
 
 -- the fields of spots, spaced, are the spots as they stand in a line
-spaced_spots : (cols : List Spot) → spaced (flat_map spot_fields cols) ≡ flat_map spot_text cols ++ (10 ∷ [])
+pub spaced_spots : (cols : List Spot) → spaced (flat_map spot_fields cols) ≡ flat_map spot_text cols ++ (10 ∷ [])
 spaced_spots [] = refl
 spaced_spots (s ∷ cols) = rw (spaced_spots cols) (simp append_assoc)
 

@@ -24,7 +24,7 @@ module _ (E : Entries) (e : SetEntry) (u : Usable E e) where
 
   module _ (row o : ℕ) (size : row ≡ e.width * e.chunk) where
     -- the row of an offset is one of the set's
-    row_below : o < size_of e → o / row < e.rows
+    pub row_below : o < size_of e → o / row < e.rows
     row_below inside =
         div_below o row e.rows (omega (arith, row_some))
         (rw size (omega (arith, mul_comm e.rows (e.width * e.chunk), mul_assoc e.width e.chunk e.rows)))

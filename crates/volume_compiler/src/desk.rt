@@ -10,6 +10,7 @@ use std::io::Write;
 use table::history::Edit;
 use table::table::{Table, View};
 use text::print::print;
+use text::refusal::TextRefusal;
 
 #[derive(Drop)]
 pub struct Desk<'a> {
@@ -25,27 +26,17 @@ impl Desk<'_> {
         what: &str,
         edit: &Edit<'_, Target>,
     ) -> io::Result<()> {
-        let roster = &self.roster;
-        let answer = match *edit {
-            Edit::Append { length, value } => roster.append(volume, length, value),
-            Edit::Assign { run, value } => roster.assign(volume, run, value),
-            Edit::Cut { length } => {
-                let mut view = volume.view();
-                let answer = roster.cut(&mut view, length);
-                volume.head = view.head;
-                answer
-            }
-            Edit::Overlay { top, base } => roster.overlay(volume, &top, &base),
-        };
+        let answer = self.roster.apply(volume, edit);
         self.outcome(what, answer)
     }
 
     // A step and whether it was accepted: WHAT: accepted, or WHAT: refused NUMBER LAYER.
     pub(crate) fn outcome(&self, what: &str, answer: Result<(), RosterRefusal>) -> io::Result<()> {
         let rt = self.rt;
-        let Err(refusal) = answer else {
+        let Err(below) = answer else {
             return println!(rt; "{what}: accepted");
         };
+        let refusal = TextRefusal::from(below);
         let number = refusal.number();
         let layer = refusal.layer();
         println!(rt; "{what}: refused {number} {layer}")
