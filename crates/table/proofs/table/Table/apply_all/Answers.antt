@@ -11,9 +11,9 @@ loop-i-preserved g c =
     let many = length-take-le c.min-many.result es (omega arith) in
     record {
       ran =
-          ran_more k.shift k.same k.clear es c.loop-i.answers c.loop-i.i e c.apply.result c.args.self.now.head c.loop-i.self.head c.args.self.now.slots.now c.loop-i.self.slots.now c.apply.new.self.head c.apply.new.self.slots.now
-          (omega arith) (omega arith) (c.edit-item.is ∙ get_or-take c.min-many.result es c.loop-i.i e (omega arith)) c.loop-i.invariant.ran c.apply.ensures.does;
-      rest = behind_kept c.loop-i.answers c.args.answers.now c.loop-i.i c.apply.result c.loop-i.invariant.rest;
+          ran_more k.shift k.same k.clear es c.loop-i.answers c.loop-i.i e _ c.args.self.now.head c.loop-i.self.head c.args.self.now.slots.now c.loop-i.self.slots.now c.apply.new.self.head c.apply.new.self.slots.now
+          (omega arith) (omega arith) (c.edit-item.is ∙ get_or-take c.min-many.result es c.loop-i.i e (omega arith)) c.loop-i.invariant.ran (search rules);
+      rest = behind_kept c.loop-i.answers c.args.answers.now c.loop-i.i _ c.loop-i.invariant.rest;
       same_row = search rules;
     }
 
