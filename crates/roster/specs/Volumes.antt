@@ -52,11 +52,11 @@ module _ (E : Entries) where
       Answers number_of (check 2 (Volume E t tops × Volume E b bases) (check 9 (t.length ≡ b.length) (check 11 (Fits shift_target same_target m n (length xs)) end)))
       (Kept shift_target same_target h xs h' xs') (λ _. Makes m n xs h' xs') r
 
-  -- a call on a volume does what its contract says
+  -- a call on a volume does what its contract says, and a cut leaves every slot
   abbrev pub DoesVolume : Call Target → Head → List (Slot Target) → Head → List (Slot Target) → Result (Unit {0}) RosterRefusal → Type 0
   DoesVolume (append l t) h xs h' xs' r = AppendsVolume h xs l t h' xs' r
   DoesVolume (assign run t) h xs h' xs' r = AssignsVolume h xs run t h' xs' r
-  DoesVolume (cut n) h xs h' xs' r = CutsVolume h xs n h' xs' r
+  DoesVolume (cut n) h xs h' xs' r = CutsVolume h xs n h' xs' r × (xs' ≡ xs)
   DoesVolume (overlay t tops b bases) h xs h' xs' r = OverlaysVolume t tops b bases h xs h' xs' r
 
   -- where a sector of a volume lies
