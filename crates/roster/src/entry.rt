@@ -1,6 +1,6 @@
 // What a roster lists, as plain numbers.
 ghost use Rattle.std.specs.Prelude.{◌≡◌, ◌<◌, ◌≤◌, length, take, replicate, MatchOption};
-ghost use Rattle.roster.specs.Rosters.{device_at};
+ghost use Rattle.roster.specs.Rosters.{device_at, no_column, no_device};
 
 use crate::listing::{Blank, Listing};
 
@@ -13,7 +13,7 @@ pub struct Device {
 }
 
 impl Blank for Device {
-    ghost blank = { record { major = 0; minor = 0; size = 0 } };
+    ghost blank = { no_device };
 
     fn blank() -> Self {
         Device::default()
@@ -38,7 +38,7 @@ pub struct SetEntry {
 }
 
 impl Blank for SetEntry {
-    ghost blank = { record { width = 0; chunk = 0; rows = 0; columns = replicate 8 (record { device = 0; base = 0 }) } };
+    ghost blank = { record { width = 0; chunk = 0; rows = 0; columns = replicate 8 no_column } };
 
     fn blank() -> Self {
         SetEntry::default()

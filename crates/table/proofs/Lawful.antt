@@ -9,7 +9,7 @@ use Rattle.table.specs.declared.refusal.Refusal.{Refusal}
 use Rattle.table.specs.Kinds.{Laws}
 use Rattle.table.specs.Extents.{at, Covers, Distinct, Normal}
 use Rattle.table.specs.Maps.{Map, Agree, appended, assigned, over}
-use Rattle.table.specs.Checks.{Checks, untold}
+use Rattle.table.specs.Checks.{check, untold}
 use Rattle.table.specs.Calls.{map_of, Leaves, AssignsBy}
 use Rattle.table.specs.Laws.{SameSlots, In, Call, Mapped, changed, after, fresh, fresh_head, DoesBy, RanBy, Holds, Least, EqualMaps, Histories, Commute}
 use Rattle.table.specs.Laws.Call.{append, assign, cut, overlay}
@@ -67,39 +67,39 @@ module _ {V : Type 0} {shift : V → ℕ → V} {same : V → V → Bool} {clear
         map = rw left.len (agree_on m.value w (map_of shift h' xs') n agree left.map);
       }
 
-  holds_done : (room : ℕ → Type 0 → Checks → Checks) (c : Call V) (m : Mapped V) (h : Head) (xs : List (Slot V)) (h' : Head) (xs' : List (Slot V)) (u : Unit {0}) → Holds shift same clear m h xs → DoesBy shift same clear room c h xs h' xs' (Ok u) → Holds shift same clear (changed shift clear c m) h' xs'
-  holds_done room (append l v) m h xs h' xs' u holds does =
+  holds_done : (c : Call V) (m : Mapped V) (h : Head) (xs : List (Slot V)) (h' : Head) (xs' : List (Slot V)) (u : Unit {0}) → Holds shift same clear m h xs → DoesBy shift same clear untold c h xs h' xs' (Ok u) → Holds shift same clear (changed shift clear c m) h' xs'
+  holds_done (append l v) m h xs h' xs' u holds does =
       holds_left (changed shift clear (append l v) m) (appended shift (map_of shift h xs) h.length v) (h.length + l) xs h' xs'
       (ap (λ (n : ℕ). n + l) holds.len)
       (rw (← holds.len) (appended_agree m.value (map_of shift h xs) h.length (h.length + l) v holds.map)) does.0
-  holds_done room (assign run v) m h xs h' xs' u holds does =
+  holds_done (assign run v) m h xs h' xs' u holds does =
       holds_left (changed shift clear (assign run v) m) (assigned shift (map_of shift h xs) run.start run.length v) h.length xs h' xs' holds.len
       (assigned_agree m.value (map_of shift h xs) run.start run.length h.length v holds.map) does.0
-  holds_done room (cut n) m h xs h' xs' u holds does =
+  holds_done (cut n) m h xs h' xs' u holds does =
       holds_left (changed shift clear (cut n) m) (map_of shift h xs) n xs h' xs' refl (λ d i lt. holds.map d i (let le : n ≤ h.length = does.1.1.0 in omega arith)) does.0
-  holds_done room (overlay t tops b bases) m h xs h' xs' u holds does =
+  holds_done (overlay t tops b bases) m h xs h' xs' u holds does =
       holds_left (changed shift clear (overlay t tops b bases) m) (over clear (map_of shift t tops) (map_of shift b bases)) t.length xs h' xs' refl
       (λ d i lt. laws.same_self (over clear (map_of shift t tops) (map_of shift b bases) d i)) does.0
 
-  kept_done : (room : ℕ → Type 0 → Checks → Checks) (c : Call V) (h : Head) (xs : List (Slot V)) (h' : Head) (xs' : List (Slot V)) (e : Refusal) → DoesBy shift same clear room c h xs h' xs' (Err e) → (h' ≡ h) × (xs' ≡ xs)
-  kept_done room (append l v) h xs h' xs' e does = does.0
-  kept_done room (assign run v) h xs h' xs' e does = does.0
-  kept_done room (cut n) h xs h' xs' e does = does.0
-  kept_done room (overlay t tops b bases) h xs h' xs' e does = does.0
+  kept_done : (c : Call V) (h : Head) (xs : List (Slot V)) (h' : Head) (xs' : List (Slot V)) (e : Refusal) → DoesBy shift same clear untold c h xs h' xs' (Err e) → (h' ≡ h) × (xs' ≡ xs)
+  kept_done (append l v) h xs h' xs' e does = does.0
+  kept_done (assign run v) h xs h' xs' e does = does.0
+  kept_done (cut n) h xs h' xs' e does = does.0
+  kept_done (overlay t tops b bases) h xs h' xs' e does = does.0
 
   holds_kept : (m : Mapped V) (h h' : Head) (xs xs' : List (Slot V)) → (h' ≡ h) × (xs' ≡ xs) → Holds shift same clear m h xs → Holds shift same clear m h' xs'
   holds_kept m h h' xs xs' kept holds = rw (kept.0, kept.1) holds
 
   -- one call, with its answer
-  holds_call : (room : ℕ → Type 0 → Checks → Checks) (c : Call V) (answer : Result (Unit {0}) Refusal) (m : Mapped V) (h : Head) (xs : List (Slot V)) (h' : Head) (xs' : List (Slot V)) → Holds shift same clear m h xs → DoesBy shift same clear room c h xs h' xs' answer → Holds shift same clear (cond (is_ok answer) (changed shift clear c m) m) h' xs'
-  holds_call room c (Ok u) m h xs h' xs' holds does = holds_done room c m h xs h' xs' u holds does
-  holds_call room c (Err e) m h xs h' xs' holds does = holds_kept m h h' xs xs' (kept_done room c h xs h' xs' e does) holds
+  holds_call : (c : Call V) (answer : Result (Unit {0}) Refusal) (m : Mapped V) (h : Head) (xs : List (Slot V)) (h' : Head) (xs' : List (Slot V)) → Holds shift same clear m h xs → DoesBy shift same clear untold c h xs h' xs' answer → Holds shift same clear (cond (is_ok answer) (changed shift clear c m) m) h' xs'
+  holds_call c (Ok u) m h xs h' xs' holds does = holds_done c m h xs h' xs' u holds does
+  holds_call c (Err e) m h xs h' xs' holds does = holds_kept m h h' xs xs' (kept_done c h xs h' xs' e does) holds
 
-  holds_after : (room : ℕ → Type 0 → Checks → Checks) (cs : List (Call V × Result (Unit {0}) Refusal)) (m : Mapped V) (h : Head) (xs : List (Slot V)) (h' : Head) (xs' : List (Slot V)) → Holds shift same clear m h xs → RanBy shift same clear room cs h xs h' xs' → Holds shift same clear (after shift clear cs m) h' xs'
-  holds_after room [] m h xs h' xs' holds ran = holds_kept m h h' xs xs' ran holds
-  holds_after room (c ∷ cs) m h xs h' xs' holds ran =
-      holds_after room cs (cond (is_ok c.1) (changed shift clear c.0 m) m) ran.0 ran.1 h' xs'
-      (holds_call room c.0 c.1 m h xs ran.0 ran.1 holds ran.2) ran.3
+  holds_after : (cs : List (Call V × Result (Unit {0}) Refusal)) (m : Mapped V) (h : Head) (xs : List (Slot V)) (h' : Head) (xs' : List (Slot V)) → Holds shift same clear m h xs → RanBy shift same clear untold cs h xs h' xs' → Holds shift same clear (after shift clear cs m) h' xs'
+  holds_after [] m h xs h' xs' holds ran = holds_kept m h h' xs xs' ran holds
+  holds_after (c ∷ cs) m h xs h' xs' holds ran =
+      holds_after cs (cond (is_ok c.1) (changed shift clear c.0 m) m) ran.0 ran.1 h' xs'
+      (holds_call c.0 c.1 m h xs ran.0 ran.1 holds ran.2) ran.3
 
   fresh_holds : (xs : List (Slot V)) → Holds shift same clear fresh fresh_head xs
   fresh_holds xs =
@@ -109,12 +109,25 @@ module _ {V : Type 0} {shift : V → ℕ → V} {same : V → V → Bool} {clear
         map = λ d i lt. absurd (let z : ⊥ = omega arith in z);
       }
 
-  -- the table that a fresh one becomes, however its calls tell of room
-  pub fresh_after : (room : ℕ → Type 0 → Checks → Checks) (cs : List (Call V × Result (Unit {0}) Refusal)) (xs : List (Slot V)) (h' : Head) (xs' : List (Slot V)) → RanBy shift same clear room cs fresh_head xs h' xs' → Holds shift same clear (after shift clear cs fresh) h' xs'
-  fresh_after room cs xs h' xs' ran = holds_after room cs fresh fresh_head xs h' xs' (fresh_holds xs) ran
-
   pub histories_stand : Histories shift same clear
-  histories_stand = fresh_after untold
+  histories_stand cs xs h' xs' ran = holds_after cs fresh fresh_head xs h' xs' (fresh_holds xs) ran
+
+  -- what a contract says is more than what a law asks
+  pub assigns_told : (h : Head) (xs : List (Slot V)) (run : Run) (v : V) (h' : Head) (xs' : List (Slot V)) (r : Result (Unit {0}) Refusal) → AssignsBy shift same check h xs run v h' xs' r → AssignsBy shift same untold h xs run v h' xs' r
+  assigns_told h xs run v h' xs' (Ok u) says = (says.0, (says.1.0, (says.1.1.0, (says.1.1.1.0, tt))))
+  assigns_told h xs run v h' xs' (Err e) says = says
+
+  does_told : (c : Call V) (h : Head) (xs : List (Slot V)) (h' : Head) (xs' : List (Slot V)) (r : Result (Unit {0}) Refusal) → DoesBy shift same clear check c h xs h' xs' r → DoesBy shift same clear untold c h xs h' xs' r
+  does_told (append l v) h xs h' xs' (Ok u) says = (says.0, (says.1.0, (says.1.1.0, (says.1.1.1.0, tt))))
+  does_told (append l v) h xs h' xs' (Err e) says = says
+  does_told (assign run v) h xs h' xs' r says = assigns_told h xs run v h' xs' r says
+  does_told (cut n) h xs h' xs' r says = says
+  does_told (overlay t tops b bases) h xs h' xs' (Ok u) says = (says.0, (says.1.0, (says.1.1.0, tt)))
+  does_told (overlay t tops b bases) h xs h' xs' (Err e) says = says
+
+  pub ran_told : (cs : List (Call V × Result (Unit {0}) Refusal)) (h : Head) (xs : List (Slot V)) (h' : Head) (xs' : List (Slot V)) → RanBy shift same clear check cs h xs h' xs' → RanBy shift same clear untold cs h xs h' xs'
+  ran_told [] h xs h' xs' ran = ran
+  ran_told (c ∷ cs) h xs h' xs' ran = (ran.0, ran.1, does_told c.0 h xs ran.0 ran.1 c.1 ran.2, ran_told cs ran.0 ran.1 h' xs' ran.3)
 
   -- an assign's map in its run and outside of it
   assigned_in : (m : Map V) (p : Run) (v d : V) (i : ℕ) → In p i → assigned shift m p.start p.length v d i ≡ shift v (i - p.start)

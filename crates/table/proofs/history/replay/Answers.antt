@@ -1,7 +1,6 @@
 use Rattle.std.proofs.Common.{rules}
-use Rattle.table.specs.Checks.{check}
 use Rattle.table.specs.Histories.{calls}
-use Rattle.table.proofs.Lawful.{least_stands, equal_maps_stand, fresh_after, histories_stand, commute_stands}
+use Rattle.table.proofs.Lawful.{least_stands, equal_maps_stand, histories_stand, ran_told, commute_stands}
 use Rattle.table.proofs.history.replay.Goals as goal
 
 pub returns-clause-laws : goal.returns-clause-laws
@@ -11,4 +10,4 @@ returns-clause-laws g c =
 
 pub returns-clause-replays : goal.returns-clause-replays
 returns-clause-replays g c =
-    record { ran = search rules; holds = fresh_after g.met.V.Value.lawful check (calls c.args.edits.now c.apply_all.new.answers) c.args.slots.now _ _ (search rules) }
+    record { ran = search rules; holds = histories_stand g.met.V.Value.lawful (calls c.args.edits.now c.apply_all.new.answers) c.args.slots.now _ _ (ran_told g.met.V.Value.lawful _ _ _ _ _ (search rules)) }
